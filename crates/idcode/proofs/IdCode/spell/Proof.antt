@@ -1,0 +1,55 @@
+-- `idcode::IdCode::spell` meets its contract. The loop's invariant is `Spelling`. Assumes nothing.
+use native.Mathlib.Omega.{arith}
+use borrow.Author.Needs.{needs}
+use Rattle.idcode.proofs.Spelling.{Spelling, spell-start, inside, spell-more, spell-done}
+use Rattle.idcode.proofs.IdCode.spell.Statement.{statement}
+use Rattle.idcode.proofs.IdCode.spell.Tie as tie
+
+abbrev Inv-loop : tie.InvT-loop
+Inv-loop bytes₀ rest₀ n₀ bytes rest n = Spelling rest₀ bytes rest n
+
+abbrev μ-loop : tie.MeasureT-loop
+μ-loop bytes₀ rest₀ n₀ bytes rest n = rest
+
+loop-holds : tie.Need-loop-holds Inv-loop μ-loop
+loop-holds c = spell-start (c .args .self .0) (omega arith)
+
+cast-bytes : tie.Need-cast-bytes Inv-loop μ-loop
+cast-bytes c = search needs
+
+add-bytes : tie.Need-add-bytes Inv-loop μ-loop
+add-bytes c = search needs
+
+array-write-bytes : tie.Need-array-write-bytes Inv-loop μ-loop
+array-write-bytes c = omega (arith, inside _ _ _ _ (c .loop .inv))
+
+add-n : tie.Need-add-n Inv-loop μ-loop
+add-n c = omega (arith, inside _ _ _ _ (c .loop .inv))
+
+sub-rest : tie.Need-sub-rest Inv-loop μ-loop
+sub-rest c = search needs
+
+loop-less : tie.Need-loop-less Inv-loop μ-loop
+loop-less c = search needs
+
+loop-again : tie.Need-loop-again Inv-loop μ-loop
+loop-again c = spell-more _ _ _ _ (c .before .loop .inv) (c .loop-test .left)
+
+returns : tie.Need-returns Inv-loop μ-loop
+returns c = spell-done _ _ _ _ (c .before .loop .inv) (c .loop-test .taken)
+
+pub spell-spec : {M : Type 1} → statement M
+spell-spec =
+    tie.close
+    (tie.spec
+    Inv-loop
+    μ-loop
+    loop-holds
+    cast-bytes
+    add-bytes
+    array-write-bytes
+    add-n
+    sub-rest
+    loop-less
+    loop-again
+    returns)

@@ -1,0 +1,62 @@
+-- The steps of writing an id text from its first byte, over the definitions of specs/Id.antt. Assumes nothing.
+use Prim.Native.Nat.{ℕ, zero, suc, _+_, _-_, _/_, _%_, _^_, _≤_, _<_}
+use mathlib.Core.Path.{_≡_, refl, _∙_, ap}
+use mathlib.Core.List.{List, [], _∷_}
+use native.Mathlib.Nat.{le-refl}
+use native.Mathlib.Numerals.{add-one}
+use native.Mathlib.Omega.{arith}
+use lib.ListN.{length, getD, drop, set, replicate, length-drop}
+use lib.Seq.{drop-cons, take-all}
+use Rattle.text.specs.Texts.{spelled}
+use Rattle.text.proofs.Rows.{Row, row-start, row-more, row-end}
+use Rattle.idcode.specs.Id.{textOf, idText}
+use Rattle.idcode.proofs.Laws.{text-room, text-length}
+
+-- n bytes of the text of code are written, and what is left of it is the text of rest
+pub record Spelling (code : ℕ) (bytes : List ℕ) (rest n : ℕ) : Type 0 where
+  pub short : length (idText code) ≤ 10
+  pub left : drop n (idText code) ≡ idText rest
+  pub row : Row (idText code) bytes n
+
+pub spell-start : (code : ℕ) → code < 2 ^ 64 → Spelling code (replicate 32 0) code 0
+spell-start code h = record { short = text-length code h .1; left = refl; row = row-start (idText code) }
+
+-- the text of rest: its first byte and the rest
+text-first : (rest : ℕ) → idText rest ≡ (33 + rest % 94) ∷ textOf rest (rest / 94)
+unfolding textOf
+text-first rest = refl
+
+text-last : (rest : ℕ) → rest < 94 → textOf rest (rest / 94) ≡ []
+unfolding textOf
+text-last zero h = refl
+text-last (suc m) h = let z : suc m / 94 ≡ 0 = omega arith in rw z
+
+text-next : (rest : ℕ) → 94 ≤ rest → textOf rest (rest / 94) ≡ idText (rest / 94 - 1)
+text-next rest h =
+    let n : suc (rest / 94 - 1) ≡ rest / 94 = omega arith in
+    rw n (text-room rest (rest / 94) (rest / 94) (omega arith) (le-refl _))
+
+module _ (code : ℕ) (bytes : List ℕ) (rest n : ℕ) (s : Spelling code bytes rest n) where
+  pub inside : n < length (idText code)
+  inside = let e = ap length (s .left ∙ text-first rest) in omega (arith, length-drop n (idText code))
+
+  next : drop n (idText code) ≡ (33 + rest % 94) ∷ textOf rest (rest / 94)
+  next = s .left ∙ text-first rest
+
+  after : drop (n + 1) (idText code) ≡ textOf rest (rest / 94)
+  after = rw add-one (let e = drop-cons (idText code) n 0 inside in cc next)
+
+  here : getD (idText code) n 0 ≡ 33 + rest % 94
+  here = let e = drop-cons (idText code) n 0 inside in cc next
+
+  pub spell-row : Row (idText code) (set bytes n (33 + rest % 94)) (n + 1)
+  spell-row = rw here at (row-more (idText code) bytes n (s .row) (omega (arith, inside, s .short)) inside)
+
+  pub spell-more : 94 ≤ rest → Spelling code (set bytes n (33 + rest % 94)) (rest / 94 - 1) (n + 1)
+  spell-more h = record { short = s .short; left = after ∙ text-next rest h; row = spell-row }
+
+  pub spell-done : rest < 94 → record { bytes = set bytes n (33 + rest % 94); len = n + 1 } ≡ spelled (idText code)
+  spell-done h =
+      let none : length (drop (n + 1) (idText code)) ≡ 0 = rw (after, text-last rest h) in
+      let end : length (idText code) ≤ n + 1 = omega (arith, none, length-drop (n + 1) (idText code)) in
+      row-end (idText code) _ (n + 1) spell-row end ∙ ap spelled (take-all 32 (idText code) (omega (arith, s .short)))

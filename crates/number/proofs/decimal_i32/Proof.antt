@@ -1,0 +1,58 @@
+-- `number::decimal_i32` meets its contract. Assumes nothing.
+use mathlib.Core.Path.{_∙_, ap}
+use Rattle.text.specs.Texts.{spelled}
+use Rattle.number.proofs.Negating.{write-plain, write-from-zero, write-wide, write-other, write-size, write-below}
+use borrow.Author.Needs.{needs}
+use Rattle.number.proofs.decimal_i32.Statement.{statement}
+use Rattle.number.proofs.decimal_i32.Tie as tie
+
+cast-decimal : tie.Need-cast-decimal
+cast-decimal c = write-plain _ (c .before .fits .n) (c .if1 .taken)
+
+decimal-requires : tie.Need-decimal-requires
+decimal-requires c κs = search needs
+
+returns : tie.Need-returns
+returns c = c .decimal .ensures ∙ ap spelled (write-from-zero _ (c .before .before .fits .n) (c .before .if1 .taken))
+
+slice-aggregate-spell : tie.Need-slice-aggregate-spell
+slice-aggregate-spell c = search needs
+
+spell-requires : tie.Need-spell-requires
+spell-requires c κs = search needs
+
+cast-decimal-2 : tie.Need-cast-decimal-2
+cast-decimal-2 c = write-wide _ (c .before .before .before .fits .n)
+
+sub-decimal : tie.Need-sub-decimal
+sub-decimal c = write-other _ (c .before .before .before .fits .n) (c .before .before .if1 .left)
+
+cast-decimal-3 : tie.Need-cast-decimal-3
+cast-decimal-3 c = write-size _ (c .before .before .before .fits .n) (c .before .before .if1 .left)
+
+decimal-requires-2 : tie.Need-decimal-requires-2
+decimal-requires-2 c κs = search needs
+
+join-requires : tie.Need-join-requires
+join-requires c κs = search needs
+
+returns-2 : tie.Need-returns-2
+returns-2 c =
+    let k = c .before .before .before .before in
+    write-below _ (k .before .fits .n) (k .if1 .left) _ _ _ (c .before .before .spell .ensures) (c .before .decimal2 .ensures) (c .join .ensures)
+
+pub decimal-i32-spec : {M : Type 1} → statement M
+decimal-i32-spec =
+    tie.close
+    (tie.spec
+    cast-decimal
+    decimal-requires
+    returns
+    slice-aggregate-spell
+    spell-requires
+    cast-decimal-2
+    sub-decimal
+    cast-decimal-3
+    decimal-requires-2
+    join-requires
+    returns-2)

@@ -1,0 +1,67 @@
+-- `number::real::equals_lower` meets its contract. Assumes nothing.
+use Prim.Native.Nat.{_-_}
+use mathlib.Core.Path.{sym, _∙_}
+use denote.Ref.{now}
+use borrow.Author.Needs.{needs}
+use lib.ListN.{length}
+use Rattle.number.proofs.Reals.{Matched, match-short, match-start, match-more, match-stop, match-end}
+use Rattle.number.proofs.real.equals_lower.Statement.{statement}
+use Rattle.number.proofs.real.equals_lower.Tie as tie
+
+abbrev Inv-loop : tie.InvT-loop
+Inv-loop s word i₀ i = Matched s word i
+
+abbrev μ-loop : tie.MeasureT-loop
+μ-loop s word i₀ i = length s - i
+
+returns : tie.Need-returns Inv-loop μ-loop
+returns c =
+    let k = c .before .before .before in match-short (now (k .args .s)) (now (k .args .word)) (c .if1 .taken)
+
+loop-holds : tie.Need-loop-holds Inv-loop μ-loop
+loop-holds c = match-start _ _ (c .if1 .left)
+
+shared-slice-read-lower-case : tie.Need-shared-slice-read-lower-case Inv-loop μ-loop
+shared-slice-read-lower-case c = search needs
+
+lower-case-requires : tie.Need-lower-case-requires Inv-loop μ-loop
+lower-case-requires c κs = search needs
+
+shared-slice-read-if2 : tie.Need-shared-slice-read-if2 Inv-loop μ-loop
+shared-slice-read-if2 c = search needs
+
+returns-2 : tie.Need-returns-2 Inv-loop μ-loop
+returns-2 c =
+    match-stop _ _ _ (c .before .before .before .before .before .loop .inv) (c .before .before .before .before .loop-test .taken)
+    (λ e. c .if2 .taken (c .before .before .lower-case .ensures ∙ e))
+
+add-i : tie.Need-add-i Inv-loop μ-loop
+add-i c = search needs
+
+loop-less : tie.Need-loop-less Inv-loop μ-loop
+loop-less c = search needs
+
+loop-again : tie.Need-loop-again Inv-loop μ-loop
+loop-again c =
+    match-more _ _ _ (c .before .before .before .before .before .loop .inv) (c .before .before .before .before .loop-test .taken)
+    (sym (c .before .before .lower-case .ensures) ∙ c .if2 .left)
+
+returns-3 : tie.Need-returns-3 Inv-loop μ-loop
+returns-3 c = match-end _ _ _ (c .before .loop .inv) (c .loop-test .left)
+
+pub equals-lower-spec : {M : Type 1} → statement M
+equals-lower-spec =
+    tie.close
+    (tie.spec
+    Inv-loop
+    μ-loop
+    returns
+    loop-holds
+    shared-slice-read-lower-case
+    lower-case-requires
+    shared-slice-read-if2
+    returns-2
+    add-i
+    loop-less
+    loop-again
+    returns-3)

@@ -1,0 +1,10 @@
+pub mod Lists
+pub mod Equal
+pub mod Places
+pub mod Rows
+pub mod Names
+pub mod Blanks
+pub mod WellFormed
+pub mod Blank
+pub mod Trimming
+pub mod Has

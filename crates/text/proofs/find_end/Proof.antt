@@ -1,0 +1,49 @@
+-- `text::find_end` meets its contract. Assumes nothing.
+use Prim.Native.Nat.{_-_}
+use lib.ListN.{length}
+use mathlib.Core.Path.{sym, _∙_}
+use borrow.Author.Needs.{needs}
+use Rattle.text.proofs.Equal.{Sought, sought-start, sought-more, sought-found, sought-none}
+use Rattle.text.proofs.find_end.Statement.{statement}
+use Rattle.text.proofs.find_end.Tie as tie
+
+abbrev Inv-loop : tie.InvT-loop
+Inv-loop s i₀ i = Sought s i
+
+abbrev μ-loop : tie.MeasureT-loop
+μ-loop s i₀ i = length s - i
+
+loop-holds : tie.Need-loop-holds Inv-loop μ-loop
+loop-holds c = sought-start _
+
+end-at-requires : tie.Need-end-at-requires Inv-loop μ-loop
+end-at-requires c κs = search needs
+
+returns : tie.Need-returns Inv-loop μ-loop
+returns c = sought-found _ _ (c .before .before .before .loop .inv) (c .before .before .loop-test .taken) (sym (c .before .end-at .ensures) ∙ c .if1 .taken)
+
+add-i : tie.Need-add-i Inv-loop μ-loop
+add-i c = search needs
+
+loop-less : tie.Need-loop-less Inv-loop μ-loop
+loop-less c = search needs
+
+loop-again : tie.Need-loop-again Inv-loop μ-loop
+loop-again c = sought-more _ _ (c .before .before .before .loop .inv) (c .before .before .loop-test .taken) (sym (c .before .end-at .ensures) ∙ c .if1 .left)
+
+returns-2 : tie.Need-returns-2 Inv-loop μ-loop
+returns-2 c = sought-none _ _ (c .before .loop .inv) (c .loop-test .left)
+
+pub find-end-spec : {M : Type 1} → statement M
+find-end-spec =
+    tie.close
+    (tie.spec
+    Inv-loop
+    μ-loop
+    loop-holds
+    end-at-requires
+    returns
+    add-i
+    loop-less
+    loop-again
+    returns-2)

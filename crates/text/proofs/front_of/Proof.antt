@@ -1,0 +1,20 @@
+-- `text::front_of` meets its contract. Assumes nothing.
+use denote.Ref.{now}
+use mathlib.Core.Path.{sym}
+use native.Mathlib.Omega.{arith}
+use lib.Seq.{take-all, length-take-le}
+use borrow.Author.Needs.{needs}
+use Rattle.text.proofs.front_of.Statement.{statement}
+use Rattle.text.proofs.front_of.Tie as tie
+
+returns : tie.Need-returns
+returns c = sym (take-all (c .before .args .len) (now (c .before .args .row)) (omega arith))
+
+slice-aggregate-result : tie.Need-slice-aggregate-result
+slice-aggregate-result c = sym (length-take-le _ _ (c .before .if1 .left))
+
+returns-2 : tie.Need-returns-2
+returns-2 c = search needs
+
+pub front-of-spec : {M : Type 1} → statement M
+front-of-spec = tie.close (tie.spec returns slice-aggregate-result returns-2)

@@ -1,0 +1,45 @@
+-- `utf8::valid` meets its contract: what is left of the text, behind what is due, stands for the whole. Assumes nothing.
+use Prim.Native.Nat.{_-_}
+use borrow.Author.Needs.{needs}
+use lib.ListN.{length}
+use Rattle.text.proofs.WellFormed.{Read, read-start, read-more, read-done}
+use Rattle.text.proofs.utf8.valid.Statement.{statement}
+use Rattle.text.proofs.utf8.valid.Tie as tie
+
+abbrev Inv-loop : tie.InvT-loop
+Inv-loop s d₀ i₀ d i = Read s d i
+
+abbrev μ-loop : tie.MeasureT-loop
+μ-loop s d₀ i₀ d i = length s - i
+
+loop-holds : tie.Need-loop-holds Inv-loop μ-loop
+loop-holds c = read-start _ _ _
+
+shared-slice-read-next : tie.Need-shared-slice-read-next Inv-loop μ-loop
+shared-slice-read-next c = search needs
+
+add-i : tie.Need-add-i Inv-loop μ-loop
+add-i c = search needs
+
+loop-less : tie.Need-loop-less Inv-loop μ-loop
+loop-less c = search needs
+
+loop-again : tie.Need-loop-again Inv-loop μ-loop
+loop-again c = read-more _ _ _ _ (c .before .before .before .loop .inv) (c .before .before .loop-test .taken) (c .next .ensures)
+
+returns : tie.Need-returns Inv-loop μ-loop
+returns c = read-done _ _ _ (c .before .loop .inv) (c .loop-test .left)
+
+pub valid-spec : {M : Type 1} → statement M
+valid-spec =
+    tie.close
+    (tie.spec
+    Inv-loop
+    μ-loop
+    loop-holds
+    shared-slice-read-next
+    (λ c κs. tt)
+    add-i
+    loop-less
+    loop-again
+    returns)

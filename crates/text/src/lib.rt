@@ -1,0 +1,207 @@
+// Texts as places in a lent buffer, and what Rust's `str` did for the crate: whitespace, equality, the first `$end`, short texts by
+// value; UTF-8 and trimming in modules of their own.
+
+pub mod utf8;
+pub mod white_space;
+
+ghost use mathlib.Core.Path.{_≡_};
+ghost use mathlib.Core.List.{[], _∷_, _++_};
+ghost use lib.ListN.{length, take, drop};
+ghost use Prim.Native.Nat.{_≤_};
+ghost use Rattle.text.specs.Bytes.{isBlank, equal, starts, endMark};
+ghost use Rattle.text.specs.Texts.{isWithin, part as partOf, firstEnd, spelled, textIn, putAnswer, putBytes};
+
+// A text is a place in a lent buffer.
+pub struct Text {
+    pub start: usize,
+    pub len: usize,
+}
+
+// A short text by value: its bytes, then zeros.
+pub struct Spelled {
+    pub bytes: [u8; 32],
+    pub len: usize,
+}
+
+pub enum Found {
+    At(usize),
+    Nothing,
+}
+
+// How many bytes were put at a buffer's start. Where they had no room, nothing changed.
+pub enum Placed {
+    Count(usize),
+    NoRoom,
+}
+
+pub fn whitespace_byte(b: u8) -> bool
+    ensures { λ r. ⌜ r ≡ isBlank b ⌝ }
+{
+    match b {
+        b' ' | b'\n' | b'\r' | b'\t' => true,
+        _ => false,
+    }
+}
+
+// Whether a text lies in the buffer. No sum is made, so none wraps.
+pub fn within(s: &[u8], t: Text) -> bool
+    ensures { λ r. ⌜ r ≡ isWithin (now (s .entry)) t ⌝ }
+{
+    let start = t.start;
+    let len = t.len;
+    if s.len() < start {
+        return false;
+    }
+    if s.len() - start < len {
+        return false;
+    }
+    true
+}
+
+// The bytes of a text; of one that does not lie in the buffer, those that do.
+pub fn part(s: &[u8], t: Text) -> &[u8]
+    ensures { λ r. ⌜ now r ≡ partOf (now (s .entry)) t ⌝ }
+{
+    let start = t.start;
+    let len = t.len;
+    if s.len() < start {
+        return &s[0..0];
+    }
+    if s.len() - start < len {
+        return &s[start..];
+    }
+    let end = start + len;
+    &s[start..end]
+}
+
+// Whether two byte strings are equal.
+pub fn equals(a: &[u8], b: &[u8]) -> bool
+    ensures { λ r. ⌜ r ≡ equal (now (a .entry)) (now (b .entry)) ⌝ }
+{
+    if a.len() != b.len() {
+        return false;
+    }
+    let mut i = 0;
+    while i < a.len() {
+        if a[i] != b[i] {
+            return false;
+        }
+        i += 1;
+    }
+    true
+}
+
+// Whether a text is the fixed byte string `word`.
+pub fn is_word(s: &[u8], t: Text, word: &[u8]) -> bool
+    ensures { λ r. ⌜ r ≡ equal (partOf (now (s .entry)) t) (now (word .entry)) ⌝ }
+{
+    equals(part(s, t), word)
+}
+
+// Whether a text begins with the byte b.
+pub fn starts_with(s: &[u8], b: u8) -> bool
+    ensures { λ r. ⌜ r ≡ starts (b ∷ []) (now (s .entry)) ⌝ }
+{
+    if s.len() == 0 {
+        return false;
+    }
+    s[0] == b
+}
+
+// Whether `$end` stands at i.
+fn end_at(s: &[u8], i: usize) -> bool
+    requires { ⌜ i ≤ length (now s) ⌝ }
+    ensures { λ r. ⌜ r ≡ starts endMark (drop i (now (s .entry))) ⌝ }
+{
+    if s.len() - i < 4 {
+        return false;
+    }
+    // Nearly every byte is turned away here.
+    if s[i] != b'$' {
+        return false;
+    }
+    let after = i + 4;
+    equals(&s[i..after], b"$end")
+}
+
+// The place of the first `$end`.
+pub fn find_end(s: &[u8]) -> Found
+    ensures { λ r. ⌜ r ≡ firstEnd (now (s .entry)) ⌝ }
+{
+    let mut i = 0;
+    while i < s.len() {
+        if end_at(s, i) {
+            return Found::At(i);
+        }
+        i += 1;
+    }
+    Found::Nothing
+}
+
+// A text by value; its first 32 bytes where it has more.
+pub fn spell(s: &[u8]) -> Spelled
+    ensures { λ r. ⌜ r ≡ spelled (take 32 (now (s .entry))) ⌝ }
+{
+    let mut bytes = [0u8; 32];
+    let mut n: usize = 0;
+    while n < 32 {
+        if s.len() <= n {
+            return Spelled { bytes, len: n };
+        }
+        bytes[n] = s[n];
+        n += 1;
+    }
+    Spelled { bytes, len: n }
+}
+
+// Two short texts joined; the first 32 bytes where they have more.
+pub fn join(a: Spelled, b: Spelled) -> Spelled
+    ensures { λ r. ⌜ r ≡ spelled (take 32 (textIn a ++ textIn b)) ⌝ }
+{
+    let front = a.bytes;
+    let back = b.bytes;
+    join_texts(front_of(&front, a.len), front_of(&back, b.len))
+}
+
+// The first bytes of a row, as far as it goes.
+fn front_of(row: &[u8], len: usize) -> &[u8]
+    ensures { λ r. ⌜ now r ≡ take len (now (row .entry)) ⌝ }
+{
+    if row.len() < len {
+        return row;
+    }
+    &row[..len]
+}
+
+fn join_texts(a: &[u8], b: &[u8]) -> Spelled
+    ensures { λ r. ⌜ r ≡ spelled (take 32 (now (a .entry) ++ now (b .entry))) ⌝ }
+{
+    let first = spell(a);
+    let mut bytes = first.bytes;
+    let mut n = first.len;
+    let mut i: usize = 0;
+    while n < 32 {
+        if b.len() <= i {
+            return Spelled { bytes, len: n };
+        }
+        bytes[n] = b[i];
+        n += 1;
+        i += 1;
+    }
+    Spelled { bytes, len: n }
+}
+
+// Puts a text at the start of `out`, and leaves what stands behind it.
+pub fn put_text(s: &[u8], out: &mut [u8]) -> Placed
+    ensures { λ r. ⌜ (r ≡ putAnswer (now (s .entry)) (now (out .entry))) × (now (out .exit) ≡ putBytes (now (s .entry)) (now (out .entry))) ⌝ }
+{
+    if out.len() < s.len() {
+        return Placed::NoRoom;
+    }
+    let mut i = 0;
+    while i < s.len() {
+        out[i] = s[i];
+        i += 1;
+    }
+    Placed::Count(i)
+}

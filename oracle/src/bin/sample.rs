@@ -1,0 +1,96 @@
+//! `sample SEED KIND`: chooses the recorded sample among the cases of a seed, and writes it to standard output.
+use oracle::make::{is_command_word, Maker};
+use oracle::{args, header, kind::Kind, reader, stream, tally};
+use std::collections::HashMap;
+use std::io::{self, BufWriter, Write};
+
+/// Of so many cases.
+const POOL: usize = 30_000;
+/// So many are chosen.
+const WANTED: usize = 1_500;
+/// The first are all taken: they hold each simulator's dump whole.
+const FIRST: usize = 100;
+/// How often each mark is wanted.
+const OFTEN: usize = 8;
+/// A case longer than this is taken only for a mark that no other has,
+const LONG: usize = 3_000;
+/// and one longer than this only for a rare mark.
+const SHORT: usize = 250;
+
+fn main() -> io::Result<()> {
+    let usage = "sample SEED read|header|write";
+    let maker = Maker::new(args::kind(2, usage), args::number(1, usage));
+    let pool: Vec<Vec<u8>> = (0..POOL).map(|n| maker.case(n)).collect();
+    let mut out = BufWriter::new(io::stdout().lock());
+    for n in chosen(args::kind(2, usage), &pool) {
+        stream::put(&mut out, &pool[n])?;
+    }
+    out.flush()
+}
+
+/// The first cases, those with a mark that is still rare, and then others spread over the pool.
+fn chosen(kind: Kind, pool: &[Vec<u8>]) -> Vec<usize> {
+    let mut seen: HashMap<String, usize> = HashMap::new();
+    let mut taken = Vec::new();
+    let mut spare = Vec::new();
+    for (n, case) in pool.iter().enumerate() {
+        let marks = marks(kind, case);
+        let wanted = if case.len() > LONG { 1 } else { OFTEN };
+        let rare = marks.iter().any(|mark| seen.get(mark).is_none_or(|times| *times < wanted));
+        if n < FIRST || rare {
+            for mark in marks {
+                *seen.entry(mark).or_default() += 1;
+            }
+            taken.push(n);
+        } else if case.len() <= SHORT {
+            spare.push(n);
+        }
+    }
+    let more = WANTED.saturating_sub(taken.len());
+    taken.extend((0..more).map(|k| spare[k * spare.len() / more]));
+    taken.sort();
+    taken
+}
+
+/// What a case shows: its commands and refusals, their types, and what was being read at a refusal.
+fn marks(kind: Kind, case: &[u8]) -> Vec<String> {
+    let answer = kind.answer(0, case);
+    let mut marks = Vec::new();
+    let mut place = 0;
+    let mut rows = 0;
+    for line in answer.lines() {
+        marks.extend(tally::name(kind, line));
+        let words: Vec<&str> = line.split(' ').collect();
+        match (kind, words[0]) {
+            (Kind::Write, _) => (),
+            (_, "scope" | "var" | "begin" | "end") => marks.push(words[..2].join(" ")),
+            (_, "timescale" | "scalar") if words.len() > 2 => marks.push(format!("{} {}", words[0], words[2])),
+            (Kind::Read, "refused") if words[1] != "3" => {
+                marks.push(format!("{} in {}", words[1], command_at(case, place)))
+            }
+            _ => (),
+        }
+        rows += matches!(words[0], "scope" | "var" | "comment") as usize;
+        if kind == Kind::Read {
+            place = words.last().and_then(|s| s.parse().ok()).unwrap_or(0);
+        }
+    }
+    if kind == Kind::Header && rows == 4096 && header::split(case).0 > rows {
+        marks.push(format!("the most rows, {}", answer.contains("\nheader ")));
+    }
+    marks
+}
+
+/// The first byte of the command at a place, or its word if there is such a word.
+fn command_at(input: &[u8], place: usize) -> String {
+    let start = reader::skip_blanks(input, place);
+    let word = match input.get(start) {
+        Some(b'$') => reader::token(input, start + 1).map_or(&b"?"[..], |word| &input[word]),
+        Some(_) => &input[start..=start],
+        None => b"",
+    };
+    match std::str::from_utf8(word) {
+        Ok(word) if word.len() == 1 || is_command_word(word) => word.to_string(),
+        _ => "?".to_string(),
+    }
+}
