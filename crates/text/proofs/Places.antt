@@ -4,7 +4,9 @@ use mathlib.Core.Path.{_≡_, sym, _∙_}
 use mathlib.Core.Bool.{true, false}
 use mathlib.Core.List.{List}
 use native.Mathlib.Omega.{arith}
-use borrow.Author.Tests.{le-leb, lt-leb, leb-true}
+use borrow.Author.Tests.{le-leb, lt-leb, leb-true, leb-false}
+use lib.Dec.{leb}
+use Rattle.text.proofs.Lists.{by-test}
 use lib.ListN.{length, take, drop, getD, length-take, length-drop, drop-of-length-le}
 use lib.Seq.{take-nil, take-all, getD-take, getD-drop}
 use Rattle.text.specs.Texts.{isWithin, part}
@@ -18,6 +20,12 @@ module _ (s : List ℕ) (t : Text) where
   pub within-no : length s < t .start + t .len → isWithin s t ≡ false
   unfolding isWithin
   within-no h = lt-leb _ _ h
+
+  -- what is left from the start on has room for it
+  pub within-left : t .start ≤ length s → leb (t .len) (length s - t .start) ≡ isWithin s t
+  within-left h =
+      by-test (leb (t .len) (length s - t .start)) (λ e. e ∙ sym (within-yes (omega (arith, leb-true (t .len) (length s - t .start) e))))
+      (λ e. e ∙ sym (within-no (omega (arith, leb-false (t .len) (length s - t .start) e))))
 
   pub within-true : isWithin s t ≡ true → t .start + t .len ≤ length s
   unfolding isWithin

@@ -52,10 +52,8 @@ pub fn within(s: &[u8], t: Text) -> bool
     if s.len() < start {
         return false;
     }
-    if s.len() - start < len {
-        return false;
-    }
-    true
+    let left = s.len() - start;
+    len <= left
 }
 
 // The bytes of a text; of one that does not lie in the buffer, those that do.

@@ -1,3 +1,4 @@
+-- `value::vector::is_vector` meets its contract. Assumes nothing.
 use Prim.Native.Nat.{_-_, _≤_}
 use mathlib.Core.Path.{_≡_, refl, sym, _∙_}
 use borrow.Author.Needs.{needs}
@@ -5,7 +6,6 @@ use borrow.Author.Tests.{not-true, not-false}
 use lib.ListN.{length, drop}
 use Rattle.value.specs.Values.{areValues}
 use Rattle.value.proofs.Vectors.{values-more, values-stop, values-done}
-use borrow.Author.Needs.{needs}
 use Rattle.value.proofs.vector.is_vector.Statement.{statement}
 use Rattle.value.proofs.vector.is_vector.Tie as tie
 

@@ -1,0 +1,4 @@
+pub mod Types
+pub mod Splitting
+pub mod Indexes
+pub mod Spelling

@@ -1,0 +1,19 @@
+-- `scope::VarType::from_str` meets its contract: each test against the table's next name. Assumes nothing.
+use borrow.Author.Needs.{needs}
+use Rattle.text.proofs.Names.{chain}
+use Rattle.scope.specs.Types.{parseVarType}
+use Rattle.scope.proofs.VarType.from_str.Statement.{statement}
+use Rattle.scope.proofs.VarType.from_str.Tie as tie
+
+pub from-str-spec : {M : Type 1} → statement M
+unfolding parseVarType
+from-str-spec =
+    tie.close
+    (tie.spec
+    (λ c. search needs) (λ c κs. search needs) (λ c. search chain depth 8 fits 3000)
+    (λ c. search needs) (λ c κs. search needs) (λ c. search chain depth 8 fits 3000)
+    (λ c. search needs) (λ c κs. search needs) (λ c. search chain depth 8 fits 3000)
+    (λ c. search needs) (λ c κs. search needs) (λ c. search chain depth 8 fits 3000)
+    (λ c. search needs) (λ c κs. search needs) (λ c. search chain depth 8 fits 3000)
+    (λ c. search needs) (λ c κs. search needs) (λ c. search chain depth 8 fits 3000)
+    (λ c κs. search needs) (λ c. search chain depth 8 fits 3000))
