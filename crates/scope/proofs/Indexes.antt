@@ -118,6 +118,7 @@ read-index (ReferenceIndex.Range a b) g f =
     rw (bracketed m, front, ne-eqb (length w) (length m) longer, drop-append-add w (58 ∷ signedOf b) 1, number-back a (f .0), number-back b (f .1))
 
 -- ---- what the text of an index is like: at most 25 bytes, each of them ASCII and no whitespace, the first a `[` where there is an index
+-- two numbers with the colon between them
 abbrev pub pair : ℤ → ℤ → List ℕ
 pair a b = signedOf a ++ (bytes ":" ++ signedOf b)
 

@@ -1,0 +1,36 @@
+-- `replay::moved` answers at most what was handed over. `above`: what is above zero fits a number without a sign. Assumes nothing.
+use mathlib.Core.Path.{_≡_, sym}
+use mathlib.Core.Bool.{false, false≢true}
+use native.Mathlib.Omega.{arith}
+use Prim.Native.Nat.{_<_, _^_}
+use lib.Dec.{T}
+use lib.IntN.{ℤ, pos, negsuc, natAbs}
+use lib.Signed.{leZ, nonNeg}
+use mir.Syntax.{w64}
+use mir.Val.{Fits, SFits, ofZ, toZ}
+use mir.ValLaws.{toZ-ofZ}
+use borrow.Author.Needs.{needs}
+use Rattle.replay.proofs.moved.Statement.{statement}
+use Rattle.replay.proofs.moved.Tie as tie
+
+above : (z : ℤ) → SFits w64 z → leZ z (pos 0) ≡ false → T (nonNeg z) × Fits w64 (natAbs z)
+above (pos n) f e = let h : n < 2 ^ 63 = f .sfits in (tt, record { fits = omega arith })
+above (negsuc n) f e = absurd (false≢true (sym e))
+
+above-held : (z : ℤ) → SFits w64 z → leZ (toZ w64 (ofZ w64 z)) (pos 0) ≡ false → T (nonNeg (toZ w64 (ofZ w64 z))) × Fits w64 (natAbs (toZ w64 (ofZ w64 z)))
+above-held z f e = rw (toZ-ofZ w64 z f) (above z f (rw (toZ-ofZ w64 z f) at e))
+
+returns : tie.Need-returns
+returns c = search needs
+
+cast-least : tie.Need-cast-least
+cast-least c = above-held _ (c .before .fits .got) (c .if1 .left)
+
+least-requires : tie.Need-least-requires
+least-requires c κs = search needs
+
+returns-2 : tie.Need-returns-2
+returns-2 c = search needs
+
+pub moved-spec : {M : Type 1} → statement M
+moved-spec = tie.close (tie.spec returns cast-least least-requires returns-2)

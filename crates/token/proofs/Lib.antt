@@ -1,0 +1,4 @@
+pub mod Reading
+pub mod Texts
+pub mod Tokens
+pub mod Words

@@ -1,0 +1,15 @@
+-- `token::word_end_read` meets its contract. Assumes nothing.
+use Rattle.token.specs.Flat.{wordEndRead}
+use borrow.Author.Needs.{needs}
+use Rattle.token.proofs.word_end_read.Statement.{statement}
+use Rattle.token.proofs.word_end_read.Tie as tie
+
+next-line-requires : tie.Need-next-line-requires
+next-line-requires c κs = search needs
+
+returns : tie.Need-returns
+unfolding wordEndRead
+returns c = rw (c .next-line .ensures)
+
+pub word-end-read-spec : {M : Type 1} → statement M
+word-end-read-spec = tie.close (tie.spec next-line-requires returns)
