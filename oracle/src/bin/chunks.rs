@@ -1,10 +1,10 @@
-//! `chunks FOLDER`: parts the cases on standard input into files of at most 1 MiB, whole cases each.
+//! `chunks FOLDER`: parts the cases on standard input into files of at most 128 KiB, whole cases each.
 use oracle::{args, stream};
 use std::fs::File;
 use std::io::{self, BufWriter, Write};
 use std::path::Path;
 
-const MOST: usize = 1 << 20;
+const MOST: usize = 1 << 17;
 
 fn main() -> io::Result<()> {
     let folder = args::text(1, "chunks FOLDER");

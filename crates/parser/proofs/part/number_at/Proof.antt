@@ -1,0 +1,19 @@
+-- `parser::part::number_at` meets its contract. Assumes nothing.
+use borrow.Author.Needs.{needs}
+use Rattle.parser.proofs.part.number_at.Statement.{statement}
+use Rattle.parser.proofs.part.number_at.Tie as tie
+
+enum-known-n : tie.Need-enum-known-n
+enum-known-n c = search needs
+
+enum-told : tie.Need-enum-told
+enum-told c = search needs
+
+returns : tie.Need-returns
+returns c = rw (c .before .n .given .1)
+
+returns-2 : tie.Need-returns-2
+returns-2 c = rw (c .enum-told .given .1)
+
+pub number-at-spec : {M : Type 1} → statement M
+number-at-spec = tie.close (tie.spec enum-known-n enum-told returns returns-2)

@@ -1,0 +1,4 @@
+pub mod Plan
+pub mod Parts
+pub mod Next
+pub mod All

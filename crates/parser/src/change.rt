@@ -1,0 +1,112 @@
+// Timestamps and changes of value.
+use crate::IdRead;
+use crate::Next;
+use crate::NumberRead;
+use crate::part;
+use command::Command;
+use command::Refusal;
+use command::Time;
+use text::Text;
+use token::Cursor;
+use token::Token;
+use value::Value;
+ghost use mathlib.Core.Path.{_≡_};
+ghost use Rattle.token.specs.Read.{Valid};
+ghost use Rattle.parser.specs.Plan.{run, anId, answer, timestamp, scalar, vector, real, string};
+
+pub fn parse_timestamp(input: &[u8], c: Cursor) -> Next
+    requires { ⌜ Valid (now input) c ⌝ }
+    ensures { λ r. ⌜ r ≡ run timestamp (now (input .entry)) c ⌝ }
+{
+    let read = part::read_number(input, c, 18446744073709551615);
+    match read {
+        NumberRead::Is(v, next) => Next::Command(Command::Timestamp(Time(v)), next),
+        NumberRead::Refused(e, next) => Next::Refused(e, next.line, next),
+    }
+}
+
+pub fn parse_scalar(input: &[u8], c: Cursor, v: Value) -> Next
+    requires { ⌜ Valid (now input) c ⌝ }
+    ensures { λ r. ⌜ r ≡ run (scalar v) (now (input .entry)) c ⌝ }
+{
+    let id = part::read_id(input, c);
+    match id {
+        IdRead::Is(i, next) => Next::Command(Command::ChangeScalar(i, v), next),
+        IdRead::Refused(e, next) => Next::Refused(e, next.line, next),
+    }
+}
+
+pub fn parse_vector(input: &[u8], c: Cursor) -> Next
+    requires { ⌜ Valid (now input) c ⌝ }
+    ensures { λ r. ⌜ r ≡ run vector (now (input .entry)) c ⌝ }
+{
+    let tok = token::read_values(input, c);
+    match tok {
+        Token::Word(t, behind) => vector_id(input, behind, t),
+        Token::Refused(e, next) => Next::Refused(e, next.line, next),
+    }
+}
+
+// The id behind the values t.
+fn vector_id(input: &[u8], c: Cursor, t: Text) -> Next
+    requires { ⌜ Valid (now input) c ⌝ }
+    ensures { λ r. ⌜ r ≡ run (anId (λ i. answer (Command.ChangeVector i t))) (now (input .entry)) c ⌝ }
+{
+    let id = part::read_id(input, c);
+    match id {
+        IdRead::Is(i, next) => Next::Command(Command::ChangeVector(i, t), next),
+        IdRead::Refused(e, next) => Next::Refused(e, next.line, next),
+    }
+}
+
+pub fn parse_real(input: &[u8], c: Cursor) -> Next
+    requires { ⌜ Valid (now input) c ⌝ }
+    ensures { λ r. ⌜ r ≡ run real (now (input .entry)) c ⌝ }
+{
+    let tok = part::read_token_str(input, c, 32);
+    match tok {
+        Token::Word(t, next) => {
+            if number::is_real(text::part(input, t)) {
+                real_id(input, next, t)
+            } else {
+                Next::Refused(Refusal::ParseFloatError, next.line, next)
+            }
+        }
+        Token::Refused(e, next) => Next::Refused(e, next.line, next),
+    }
+}
+
+// The id behind the real t.
+fn real_id(input: &[u8], c: Cursor, t: Text) -> Next
+    requires { ⌜ Valid (now input) c ⌝ }
+    ensures { λ r. ⌜ r ≡ run (anId (λ i. answer (Command.ChangeReal i t))) (now (input .entry)) c ⌝ }
+{
+    let id = part::read_id(input, c);
+    match id {
+        IdRead::Is(i, next) => Next::Command(Command::ChangeReal(i, t), next),
+        IdRead::Refused(e, next) => Next::Refused(e, next.line, next),
+    }
+}
+
+pub fn parse_string(input: &[u8], c: Cursor) -> Next
+    requires { ⌜ Valid (now input) c ⌝ }
+    ensures { λ r. ⌜ r ≡ run string (now (input .entry)) c ⌝ }
+{
+    let tok = part::read_token_str(input, c, 4294967295);
+    match tok {
+        Token::Word(t, next) => string_id(input, next, t),
+        Token::Refused(e, next) => Next::Refused(e, next.line, next),
+    }
+}
+
+// The id behind the string t.
+fn string_id(input: &[u8], c: Cursor, t: Text) -> Next
+    requires { ⌜ Valid (now input) c ⌝ }
+    ensures { λ r. ⌜ r ≡ run (anId (λ i. answer (Command.ChangeString i t))) (now (input .entry)) c ⌝ }
+{
+    let id = part::read_id(input, c);
+    match id {
+        IdRead::Is(i, next) => Next::Command(Command::ChangeString(i, t), next),
+        IdRead::Refused(e, next) => Next::Refused(e, next.line, next),
+    }
+}

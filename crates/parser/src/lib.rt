@@ -1,0 +1,258 @@
+// Reading one command (parser.rs of vcd 0.7.0): the first byte chooses, each part is judged before the next is read.
+mod change;
+mod declare;
+mod part;
+
+use command::Command;
+use command::Open;
+use command::Refusal;
+use command::SimulationCommand;
+use idcode::IdCode;
+use token::Cursor;
+use token::Token;
+use value::Value;
+ghost use mathlib.Core.Path.{_≡_};
+ghost use lib.ListN.{drop};
+ghost use Rattle.text.specs.Names.{lookup};
+ghost use Rattle.token.specs.Read.{Valid};
+ghost use Rattle.parser.specs.Plan.{run, dollar, words, wordOf, wordPlan, kindOf, kindPlan, ended as endedOf, withOpen};
+ghost use Rattle.parser.specs.Next.{isGood, nextFrom, fresh as freshCursor};
+
+// What a command's first byte chooses.
+pub enum Kind {
+    Dollar,
+    Hash,
+    Scalar(Value),
+    Vector,
+    Real,
+    Text,
+    Other,
+}
+
+// The words after `$`.
+pub enum Word {
+    Comment,
+    Date,
+    Version,
+    Timescale,
+    Scope,
+    Upscope,
+    Var,
+    Enddefinitions,
+    Begin(SimulationCommand),
+    End,
+    Unknown,
+}
+
+// A command and the cursor after it; a refusal, its line, and the cursor just after the last byte read; or the end.
+pub enum Next {
+    Command(Command, Cursor),
+    Refused(Refusal, u64, Cursor),
+    Done(Cursor),
+}
+
+pub enum NumberRead {
+    Is(u64, Cursor),
+    Refused(Refusal, Cursor),
+}
+
+pub enum IdRead {
+    Is(IdCode, Cursor),
+    Refused(Refusal, Cursor),
+}
+
+// The cursor before the first byte.
+pub fn start() -> Cursor
+    ensures { λ r. ⌜ r ≡ freshCursor ⌝ }
+{
+    Cursor {
+        place: 0,
+        line: 1,
+        pending: false,
+        sim: Open::None,
+    }
+}
+
+// The next command.
+pub fn next_command(input: &[u8], c: Cursor) -> Next
+    ensures { λ r. ⌜ r ≡ nextFrom (now (input .entry)) c ⌝ }
+{
+    if placed(input, c) {
+        let from = token::skip(input, c);
+        let at = from.place;
+        if input.len() <= at {
+            return Next::Done(token::end_read(from));
+        }
+        let b = input[at];
+        chosen(input, token::byte_read(from, b), kind_of(b))
+    } else {
+        Next::Refused(Refusal::BadPlace, c.line, c)
+    }
+}
+
+// May the cursor stand in the input?
+fn placed(input: &[u8], c: Cursor) -> bool
+    ensures { λ r. ⌜ r ≡ isGood (now (input .entry)) c ⌝ }
+{
+    if 4294967295 < input.len() {
+        return false;
+    }
+    if input.len() < c.place {
+        return false;
+    }
+    if c.line < 1 {
+        return false;
+    }
+    let most = c.place as u64;
+    if c.pending {
+        c.line <= most
+    } else {
+        c.line <= most + 1
+    }
+}
+
+fn kind_of(b: u8) -> Kind
+    ensures { λ r. ⌜ r ≡ kindOf b ⌝ }
+{
+    match b {
+        b'$' => Kind::Dollar,
+        b'#' => Kind::Hash,
+        b'0' => Kind::Scalar(Value::V0),
+        b'1' => Kind::Scalar(Value::V1),
+        b'x' | b'X' => Kind::Scalar(Value::X),
+        b'z' | b'Z' => Kind::Scalar(Value::Z),
+        b'b' | b'B' => Kind::Vector,
+        b'r' | b'R' => Kind::Real,
+        b's' | b'S' => Kind::Text,
+        _ => Kind::Other,
+    }
+}
+
+// What the first byte asks for.
+fn chosen(input: &[u8], c: Cursor, k: Kind) -> Next
+    requires { ⌜ Valid (now input) c ⌝ }
+    ensures { λ r. ⌜ r ≡ run (kindPlan k) (now (input .entry)) c ⌝ }
+{
+    match k {
+        Kind::Dollar => parse_command(input, c),
+        Kind::Hash => change::parse_timestamp(input, c),
+        Kind::Scalar(v) => change::parse_scalar(input, c, v),
+        Kind::Vector => change::parse_vector(input, c),
+        Kind::Real => change::parse_real(input, c),
+        Kind::Text => change::parse_string(input, c),
+        Kind::Other => Next::Refused(Refusal::UnexpectedCharacter, c.line, c),
+    }
+}
+
+// The word after `$`, and what it asks for.
+fn parse_command(input: &[u8], c: Cursor) -> Next
+    requires { ⌜ Valid (now input) c ⌝ }
+    ensures { λ r. ⌜ r ≡ run dollar (now (input .entry)) c ⌝ }
+{
+    let tok = token::read_token(input, c, 16);
+    match tok {
+        Token::Word(t, next) => act(input, next, word_of(text::part(input, t))),
+        Token::Refused(e, next) => Next::Refused(e, next.line, next),
+    }
+}
+
+// Which word a text is.
+fn word_of(w: &[u8]) -> Word
+    ensures { λ r. ⌜ r ≡ wordOf (now (w .entry)) ⌝ }
+{
+    if text::equals(w, b"comment") {
+        return Word::Comment;
+    }
+    if text::equals(w, b"date") {
+        return Word::Date;
+    }
+    if text::equals(w, b"version") {
+        return Word::Version;
+    }
+    if text::equals(w, b"timescale") {
+        return Word::Timescale;
+    }
+    scope_word(w)
+}
+
+// The words from the fifth on.
+fn scope_word(w: &[u8]) -> Word
+    ensures { λ r. ⌜ r ≡ lookup (drop 4 words) Word.Unknown (now (w .entry)) ⌝ }
+{
+    if text::equals(w, b"scope") {
+        return Word::Scope;
+    }
+    if text::equals(w, b"upscope") {
+        return Word::Upscope;
+    }
+    if text::equals(w, b"var") {
+        return Word::Var;
+    }
+    if text::equals(w, b"enddefinitions") {
+        return Word::Enddefinitions;
+    }
+    simulation_word(w)
+}
+
+// The words from the ninth on.
+fn simulation_word(w: &[u8]) -> Word
+    ensures { λ r. ⌜ r ≡ lookup (drop 8 words) Word.Unknown (now (w .entry)) ⌝ }
+{
+    if text::equals(w, &command::DUMPALL) {
+        return Word::Begin(SimulationCommand::Dumpall);
+    }
+    if text::equals(w, &command::DUMPOFF) {
+        return Word::Begin(SimulationCommand::Dumpoff);
+    }
+    if text::equals(w, &command::DUMPON) {
+        return Word::Begin(SimulationCommand::Dumpon);
+    }
+    if text::equals(w, &command::DUMPVARS) {
+        return Word::Begin(SimulationCommand::Dumpvars);
+    }
+    if text::equals(w, b"end") {
+        return Word::End;
+    }
+    Word::Unknown
+}
+
+fn act(input: &[u8], c: Cursor, w: Word) -> Next
+    requires { ⌜ Valid (now input) c ⌝ }
+    ensures { λ r. ⌜ r ≡ run (wordPlan w) (now (input .entry)) c ⌝ }
+{
+    match w {
+        Word::Comment => declare::read_comment(input, c),
+        Word::Date => declare::read_date(input, c),
+        Word::Version => declare::read_version(input, c),
+        Word::Timescale => declare::read_timescale(input, c),
+        Word::Scope => declare::read_scope(input, c),
+        Word::Upscope => part::read_command_end(input, c, Command::Upscope),
+        Word::Var => declare::read_var(input, c),
+        Word::Enddefinitions => part::read_command_end(input, c, Command::Enddefinitions),
+        Word::Begin(k) => Next::Command(Command::Begin(k), with_open(c, Open::Of(k))),
+        Word::End => ended(c),
+        Word::Unknown => Next::Refused(Refusal::UnknownCommand, c.line, c),
+    }
+}
+
+fn with_open(c: Cursor, o: Open) -> Cursor
+    ensures { λ r. ⌜ r ≡ withOpen c o ⌝ }
+{
+    Cursor {
+        place: c.place,
+        line: c.line,
+        pending: c.pending,
+        sim: o,
+    }
+}
+
+// `$end` closes the open simulation command.
+fn ended(c: Cursor) -> Next
+    ensures { λ r. ⌜ r ≡ endedOf (c .sim) c ⌝ }
+{
+    let o = c.sim;
+    match o {
+        Open::None => Next::Refused(Refusal::UnmatchedEnd, c.line, c),
+        Open::Of(k) => Next::Command(Command::End(k), with_open(c, Open::None)),
+    }
+}
