@@ -6,3 +6,5 @@ pub mod Kept
 pub mod Arms
 pub mod Answers
 pub mod Declarations
+pub mod Moved
+pub mod Stated

@@ -3,11 +3,21 @@ use mathlib.Core.Path.{_≡_, refl}
 use mathlib.Core.List.{map}
 use Rattle.idcode.specs.Id.{parseId, textOf, isIdByte, allId, idTail, sumFrom}
 use Rattle.scope.specs.Index.{parseIndex}
+use Rattle.text.specs.Bytes.{isBlank, equal, has, starts, upTo}
+use Rattle.text.specs.Names.{lookup}
+use Rattle.text.specs.Texts.{part}
+use Rattle.text.specs.Utf8.{lies, dueAfter, wellFormed, validUtf8}
+use Rattle.text.specs.WhiteSpace.{beginsWith, blankAt, blanks, allWhite, keptOf}
+use Rattle.value.specs.Values.{isValue, lower}
+use Rattle.token.specs.Read.{byteRead, endRead, after, gap, word, skipped, valuesIn, wordToken, wordHere, token, textTo, textFrom}
+use Rattle.parser.specs.Plan.{run, kindOf}
+use Rattle.parser.specs.Next.{isGood, found, nextFrom}
+use Rattle.parser.specs.All.{readOn, readAll}
 use Rattle.points.specs.Points.{Asked, Told, points, tells}
 
 abbrev pub computed : Asked × Told → Asked × Told
 computed p = (p .0, tells (p .0))
 
 pub starred : map computed points ≡ points
-unfolding parseId isIdByte allId idTail sumFrom textOf parseIndex
+unfolding parseId isIdByte allId idTail sumFrom textOf parseIndex readAll readOn nextFrom isGood found kindOf run lookup skipped gap word after byteRead endRead token wordHere wordToken textFrom textTo valuesIn isBlank equal has starts upTo part isValue lower validUtf8 wellFormed dueAfter lies beginsWith blankAt blanks allWhite keptOf
 starred = refl
