@@ -8,3 +8,5 @@ pub mod Answers
 pub mod Declarations
 pub mod Moved
 pub mod Stated
+pub mod Fast
+pub mod Hits

@@ -1,11 +1,14 @@
-// Timestamps and changes of value.
+// Timestamps and changes of value. The hot ones try a quick pass first, and fall back on the plain way behind it.
 use crate::IdRead;
 use crate::Next;
 use crate::NumberRead;
 use crate::part;
+use crate::quick;
+use crate::quick::Quick;
 use command::Command;
 use command::Refusal;
 use command::Time;
+use idcode::IdCode;
 use text::Text;
 use token::Cursor;
 use token::Token;
@@ -18,6 +21,21 @@ pub fn parse_timestamp(input: &[u8], c: Cursor) -> Next
     requires { ⌜ Valid (now input) c ⌝ }
     ensures { λ r. ⌜ r ≡ run timestamp (now (input .entry)) c ⌝ }
 {
+    let at = c.place;
+    let q = quick::quick_number(input, at);
+    match q {
+        Quick::Hit(v, end) => {
+            let next = token::word_read(c, end, input[end]);
+            Next::Command(Command::Timestamp(Time(v)), next)
+        }
+        Quick::Miss => slow_timestamp(input, c),
+    }
+}
+
+fn slow_timestamp(input: &[u8], c: Cursor) -> Next
+    requires { ⌜ Valid (now input) c ⌝ }
+    ensures { λ r. ⌜ r ≡ run timestamp (now (input .entry)) c ⌝ }
+{
     let read = part::read_number(input, c, 18446744073709551615);
     match read {
         NumberRead::Is(v, next) => Next::Command(Command::Timestamp(Time(v)), next),
@@ -26,6 +44,21 @@ pub fn parse_timestamp(input: &[u8], c: Cursor) -> Next
 }
 
 pub fn parse_scalar(input: &[u8], c: Cursor, v: Value) -> Next
+    requires { ⌜ Valid (now input) c ⌝ }
+    ensures { λ r. ⌜ r ≡ run (scalar v) (now (input .entry)) c ⌝ }
+{
+    let at = c.place;
+    let q = quick::quick_id(input, at);
+    match q {
+        Quick::Hit(i, end) => {
+            let next = token::word_read(c, end, input[end]);
+            Next::Command(Command::ChangeScalar(IdCode(i), v), next)
+        }
+        Quick::Miss => slow_scalar(input, c, v),
+    }
+}
+
+fn slow_scalar(input: &[u8], c: Cursor, v: Value) -> Next
     requires { ⌜ Valid (now input) c ⌝ }
     ensures { λ r. ⌜ r ≡ run (scalar v) (now (input .entry)) c ⌝ }
 {
@@ -49,6 +82,21 @@ pub fn parse_vector(input: &[u8], c: Cursor) -> Next
 
 // The id behind the values t.
 fn vector_id(input: &[u8], c: Cursor, t: Text) -> Next
+    requires { ⌜ Valid (now input) c ⌝ }
+    ensures { λ r. ⌜ r ≡ run (anId (λ i. answer (Command.ChangeVector i t))) (now (input .entry)) c ⌝ }
+{
+    let at = c.place;
+    let q = quick::quick_id(input, at);
+    match q {
+        Quick::Hit(i, end) => {
+            let next = token::word_read(c, end, input[end]);
+            Next::Command(Command::ChangeVector(IdCode(i), t), next)
+        }
+        Quick::Miss => slow_vector_id(input, c, t),
+    }
+}
+
+fn slow_vector_id(input: &[u8], c: Cursor, t: Text) -> Next
     requires { ⌜ Valid (now input) c ⌝ }
     ensures { λ r. ⌜ r ≡ run (anId (λ i. answer (Command.ChangeVector i t))) (now (input .entry)) c ⌝ }
 {

@@ -2,6 +2,7 @@
 mod change;
 mod declare;
 mod part;
+mod quick;
 
 use command::Command;
 use command::Open;

@@ -1,26 +1,50 @@
 -- `parser::change::parse_timestamp` meets its contract. Assumes nothing.
+use native.Mathlib.Omega.{arith}
+use denote.Ref.{now}
 use Rattle.command.specs.declared.Command.{Command}
-use Rattle.parser.specs.Plan.{answer}
-use Rattle.parser.proofs.Arms.{answered, number-on, number-off}
+use Rattle.parser.specs.Quick.{QuickNumber}
+use Rattle.parser.specs.declared.quick.Quick.the-variants.{Hit}
+use Rattle.parser.proofs.Hits.{number-hit}
 use borrow.Author.Needs.{needs}
 use Rattle.parser.proofs.change.parse_timestamp.Statement.{statement}
 use Rattle.parser.proofs.change.parse_timestamp.Tie as tie
 
-read-number-requires : tie.Need-read-number-requires
-read-number-requires c κs = search needs
+hit : (c : tie.After-q) → QuickNumber (now (c .before .before .before .before .args .input)) (c .before .before .before .before .args .c .place) (Hit (c .q .given .0 .0) (c .q .given .0 .1 .0))
+hit c = rw (c .q .given .1) at (c .before .before .quick-number .ensures)
 
-enum-known-read : tie.Need-enum-known-read
-enum-known-read c = search needs
+quick-number-requires : tie.Need-quick-number-requires
+quick-number-requires c κs = search needs
 
-enum-known-read-2 : tie.Need-enum-known-read-2
-enum-known-read-2 c = search needs
+enum-known-q : tie.Need-enum-known-q
+enum-known-q c = search needs
+
+shared-slice-read-word-read : tie.Need-shared-slice-read-word-read
+shared-slice-read-word-read c = omega (arith, hit (c .before .before) .0 .inside)
+
+word-read-requires : tie.Need-word-read-requires
+word-read-requires c κs = omega (arith, hit (c .before .before) .0 .inside, c .before .before .before .before .before .before .pre)
+
+enum-told : tie.Need-enum-told
+enum-told c = search needs
+
+slow-timestamp-requires : tie.Need-slow-timestamp-requires
+slow-timestamp-requires c κs = search needs
 
 returns : tie.Need-returns
-returns c = number-on (c .before .before .before .before .before .pre) _ (c .before .before .before .read-number .ensures) (λ v. answer (Command.Timestamp (record { 0 = v }))) (c .before .read .given .1) (answered _ _)
+returns c = let h = hit (c .before .before .before) in number-hit _ _ (c .before .before .before .before .before .before .before .pre) _ (h .0) _ (c .word-read .ensures) _ (h .1) (λ y. Command.Timestamp (record { 0 = y }))
 
 returns-2 : tie.Need-returns-2
-returns-2 c = number-off (c .before .before .before .before .before .pre) _ (c .before .before .before .read-number .ensures) (λ v. answer (Command.Timestamp (record { 0 = v }))) (c .before .read2 .given .1)
+returns-2 c = search needs
 
 pub parse-timestamp-spec : {M : Type 1} → statement M
 parse-timestamp-spec =
-    tie.close (tie.spec read-number-requires enum-known-read enum-known-read-2 returns returns-2)
+    tie.close
+    (tie.spec
+    quick-number-requires
+    enum-known-q
+    shared-slice-read-word-read
+    word-read-requires
+    enum-told
+    slow-timestamp-requires
+    returns
+    returns-2)

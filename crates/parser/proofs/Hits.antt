@@ -1,0 +1,81 @@
+-- Where a quick pass hits at the cursor, the plain way reads the same: the word, the cursor behind its blank, and what it means. Assumes nothing.
+use Prim.Native.Nat.{ℕ, _+_, _-_, _^_, _<_}
+use mathlib.Core.Path.{_≡_, refl, sym, ap, _∙_}
+use mathlib.Core.Bool.{false}
+use mathlib.Core.List.{List}
+use native.Mathlib.Nat.{add-zero, le-refl}
+use native.Mathlib.Omega.{arith}
+use lib.ListN.{length, getD, length-take}
+use lib.Seq.{take-all, getD-drop}
+use Rattle.text.specs.Bytes.{isBlank}
+use Rattle.text.specs.Texts.{part}
+use Rattle.text.specs.declared.Text.{Text}
+use Rattle.number.specs.Decimal.{parseBelow}
+use Rattle.number.specs.declared.Number.{Number}
+use Rattle.idcode.specs.Id.{parseId}
+use Rattle.idcode.specs.declared.IdCode.{IdCode}
+use Rattle.idcode.specs.declared.Parsed.{Parsed}
+use Rattle.command.specs.declared.Command.{Command}
+use Rattle.token.specs.Read.{Valid, most, rest, word, skipped, wordHere, token}
+use Rattle.token.specs.Flat.{wordRead, firstPassed}
+use Rattle.token.specs.declared.Cursor.{Cursor}
+use Rattle.token.specs.declared.Token.{Token}
+use Rattle.token.proofs.Reading.{skip-stop}
+use Rattle.token.proofs.Words.{word-in, word-front, here-text}
+use Rattle.parser.specs.Plan.{answer, aNumber, anId, run}
+use Rattle.parser.specs.Parts.{wordFrom}
+use Rattle.parser.specs.Quick.{Whole}
+use Rattle.parser.specs.declared.IdRead.{IdRead}
+use Rattle.parser.specs.declared.Next.{Next}
+use Rattle.parser.specs.declared.NumberRead.{NumberRead}
+use Rattle.parser.proofs.Answers.{word-good, number-parsed, id-parsed}
+use Rattle.parser.proofs.Arms.{answered, number-on, id-on}
+
+module _ (s : List ℕ) (c : Cursor) (v : Valid s c) (e : ℕ) (w : Whole s (c .place) e) where
+  abbrev t : Text
+  t = record { start = c .place; len = e - c .place }
+
+  abbrev d : Cursor
+  d = wordRead c e (getD s e 0)
+
+  -- no blank stands at the cursor
+  first : isBlank (getD s (c .place) 0) ≡ false
+  first =
+      let k : isBlank (getD (rest s c) 0 0) ≡ false = word-in (rest s c) 0 (omega (arith, w .some, w .long)) in
+      let p : getD (rest s c) 0 0 ≡ getD s (c .place) 0 = getD-drop (c .place) s 0 0 ∙ ap (λ (i : ℕ). getD s i 0) (add-zero (c .place)) in
+      ap isBlank (sym p) ∙ k
+
+  long : e ≡ c .place + length (firstPassed (most 32) (rest s c))
+  unfolding firstPassed
+  long = omega (arith, length-take 32 (word (rest s c)), w .few, w .long)
+
+  here : token s c (most 32) ≡ Token.Word t d
+  unfolding token
+  here =
+      let k : c .place < length s = omega (arith, w .some, w .inside) in
+      rw (skip-stop s c k first) (sym (here-text s c (most 32) e v long (w .inside) (w .ended)))
+
+  bytes : word (rest s c) ≡ part s t
+  unfolding part
+  bytes =
+      let k : e - c .place ≡ length (word (rest s c)) = omega (arith, w .long) in
+      rw k (sym (take-all (length (word (rest s c))) (word (rest s c)) (le-refl _)) ∙ word-front (rest s c) (length (word (rest s c))) (le-refl _))
+
+  judged : wordFrom s c (most 32) ≡ Token.Word t d
+  judged = sym (word-good s c (most 32) t d (word (rest s c)) here bytes (w .text))
+
+  -- the answers, where `next` is the cursor that the code makes
+  module _ (next : Cursor) (n : next ≡ d) where
+    pub number-hit : (x : ℕ) → parseBelow (2 ^ 64) (word (rest s c)) ≡ Number.Is x → (k : ℕ → Command)
+        → Next.Command (k x) next ≡ run (aNumber (2 ^ 64) (λ y. answer (k y))) s c
+    number-hit x p k =
+        rw n
+        (number-on v (2 ^ 64) (number-parsed s c t d (word (rest s c)) judged bytes (2 ^ 64) (Number.Is x) (NumberRead.Is x d) (sym p) refl)
+        (λ y. answer (k y)) refl (answered s (k x)))
+
+    pub id-hit : (i : IdCode) → parseId (word (rest s c)) ≡ Parsed.Code i → (k : IdCode → Command)
+        → Next.Command (k i) next ≡ run (anId (λ y. answer (k y))) s c
+    id-hit i p k =
+        rw n
+        (id-on v (id-parsed s c t d (word (rest s c)) judged bytes (Parsed.Code i) (IdRead.Is i d) (sym p) refl)
+        (λ y. answer (k y)) refl (answered s (k i)))

@@ -1,0 +1,26 @@
+-- `parser::change::slow_scalar` meets its contract. Assumes nothing.
+use Rattle.command.specs.declared.Command.{Command}
+use Rattle.parser.specs.Plan.{answer}
+use Rattle.parser.proofs.Arms.{answered, id-on, id-off}
+use borrow.Author.Needs.{needs}
+use Rattle.parser.proofs.change.slow_scalar.Statement.{statement}
+use Rattle.parser.proofs.change.slow_scalar.Tie as tie
+
+read-id-requires : tie.Need-read-id-requires
+read-id-requires c κs = search needs
+
+enum-known-id : tie.Need-enum-known-id
+enum-known-id c = search needs
+
+enum-known-id-2 : tie.Need-enum-known-id-2
+enum-known-id-2 c = search needs
+
+returns : tie.Need-returns
+returns c = id-on (c .before .before .before .before .before .pre) (c .before .before .before .read-id .ensures) (λ i. answer (Command.ChangeScalar i (c .before .before .before .before .before .args .v))) (c .before .id .given .1) (answered _ _)
+
+returns-2 : tie.Need-returns-2
+returns-2 c = id-off (c .before .before .before .before .before .pre) (c .before .before .before .read-id .ensures) (λ i. answer (Command.ChangeScalar i (c .before .before .before .before .before .args .v))) (c .before .id2 .given .1)
+
+pub slow-scalar-spec : {M : Type 1} → statement M
+slow-scalar-spec =
+    tie.close (tie.spec read-id-requires enum-known-id enum-known-id-2 returns returns-2)

@@ -1,0 +1,32 @@
+-- What a quick pass over a token tells. An answer is held to the definitions of Plan.antt and Next.antt; these are only steps to them.
+use Prim.Native.Nat.{ℕ, _+_, _≤_, _<_, _^_}
+use mathlib.Core.Path.{_≡_}
+use mathlib.Core.Bool.{true}
+use mathlib.Core.List.{List}
+use lib.ListN.{length, drop, getD}
+use Rattle.text.specs.Bytes.{isBlank}
+use Rattle.text.specs.Utf8.{validUtf8}
+use Rattle.number.specs.Decimal.{parseBelow}
+use Rattle.number.specs.declared.Number.{Number}
+use Rattle.idcode.specs.Id.{parseId}
+use Rattle.idcode.specs.declared.Parsed.{Parsed}
+use Rattle.token.specs.Read.{word}
+use Rattle.parser.specs.declared.quick.Quick.{Quick}
+
+-- the word that starts at `at` is UTF-8, within the limit, and ends before e, where a blank stands
+pub record Whole (s : List ℕ) (at e : ℕ) : Type 0 where
+  pub some : at < e
+  pub inside : e < length s
+  pub few : e ≤ at + 32
+  pub long : at + length (word (drop at s)) ≡ e
+  pub ended : isBlank (getD s e 0) ≡ true
+  pub text : validUtf8 (word (drop at s)) ≡ true
+
+-- a hit gives the word's end and meaning; a miss tells nothing
+abbrev pub QuickNumber : List ℕ → ℕ → Quick → Type 0
+QuickNumber s at (Quick.Hit v e) = Whole s at e × (parseBelow (2 ^ 64) (word (drop at s)) ≡ Number.Is v)
+QuickNumber s at Quick.Miss = Unit {0}
+
+abbrev pub QuickId : List ℕ → ℕ → Quick → Type 0
+QuickId s at (Quick.Hit v e) = Whole s at e × (parseId (word (drop at s)) ≡ Parsed.Code (record { 0 = v }))
+QuickId s at Quick.Miss = Unit {0}
