@@ -1,16 +1,16 @@
 -- Laws of the quick passes: bytes of a word that are passed one by one, and what its end tells. Assumes nothing.
 use Prim.Native.Nat.{ℕ, suc, _+_, _-_, _*_, _^_, _≤_, _<_}
 use mathlib.Core.Path.{_≡_, refl, sym, ap, _∙_}
-use mathlib.Core.Bool.{true, false}
+use mathlib.Core.Bool.{true}
 use mathlib.Core.List.{List, [], _∷_}
 use native.Mathlib.Nat.{add-zero, mul-zero, mul-add, mul-assoc, mul-comm, pow-suc, mul-le-mul-right, pow-le-pow-right}
 use native.Mathlib.Omega.{arith}
 use borrow.Author.Tests.{lt-leb}
 use lib.ListN.{length, drop, getD}
 use Rattle.text.specs.Bytes.{isBlank}
-use Rattle.text.specs.Utf8.{validUtf8, wellFormed, dueAfter, _to_}
-use Rattle.text.proofs.Blanks.{blank-no}
-use Rattle.text.proofs.WellFormed.{lies-in}
+use Rattle.text.specs.Utf8.{validUtf8}
+use Rattle.text.proofs.Blanks.{solid}
+use Rattle.text.proofs.WellFormed.{ascii-first, empty-valid}
 use Rattle.number.specs.Decimal.{numberFrom, digitsBelow, parseBelow}
 use Rattle.number.specs.declared.Number.{Number}
 use Rattle.number.proofs.Laws.{digit, from-digit, from-end, sign-no}
@@ -20,18 +20,6 @@ use Rattle.idcode.proofs.Laws.{sum-cons, id-byte, tail-good}
 use Rattle.token.specs.Read.{word}
 use Rattle.token.proofs.Words.{word-step, word-stop}
 use Rattle.parser.specs.Quick.{Whole}
-
--- ---- one byte of a word
-solid : (b : ℕ) → 32 < b → isBlank b ≡ false
-solid b h = blank-no b (λ e. omega arith) (λ e. omega arith) (λ e. omega arith) (λ e. omega arith)
-
-ascii : (b : ℕ) (w : List ℕ) → b < 128 → validUtf8 (b ∷ w) ≡ validUtf8 w
-unfolding validUtf8 wellFormed dueAfter
-ascii b w h = rw (lies-in (0x00 to 0x7F) b (omega arith) (omega arith))
-
-empty-text : validUtf8 [] ≡ true
-unfolding validUtf8 wellFormed
-empty-text = refl
 
 -- ---- the bytes from `at` up to i belong to the word, and are ASCII
 pub record Passed (s : List ℕ) (at i : ℕ) : Type 0 where
@@ -47,12 +35,12 @@ module _ (s : List ℕ) (at i : ℕ) (p : Passed s at i) (h : i < length s) wher
   passed-more : 32 < getD s i 0 → getD s i 0 < 128 → Passed s at (i + 1)
   passed-more l u =
       let e = word-step s i h (solid (getD s i 0) l) in
-      record { ahead = omega (arith, p .ahead); within = omega arith; long = omega (arith, p .long, ap length e); text = p .text ∙ ap validUtf8 e ∙ ascii (getD s i 0) (word (drop (i + 1) s)) u }
+      record { ahead = omega (arith, p .ahead); within = omega arith; long = omega (arith, p .long, ap length e); text = p .text ∙ ap validUtf8 e ∙ ascii-first (getD s i 0) (word (drop (i + 1) s)) u }
 
   passed-end : at < i → i ≤ at + 32 → isBlank (getD s i 0) ≡ true → Whole s at i
   passed-end some few e =
       let w = word-stop s i h e in
-      record { some = some; inside = h; few = few; long = omega (arith, p .long, ap length w); ended = e; text = p .text ∙ ap validUtf8 w ∙ empty-text }
+      record { some = some; inside = h; few = few; long = omega (arith, p .long, ap length w); ended = e; text = p .text ∙ ap validUtf8 w ∙ empty-valid }
 
 -- ---- digits
 pub record DigitsTo (s : List ℕ) (at i v : ℕ) : Type 0 where

@@ -1,22 +1,25 @@
 -- Where a quick pass hits at the cursor, the plain way reads the same: the word, the cursor behind its blank, and what it means. Assumes nothing.
 use Prim.Native.Nat.{ℕ, _+_, _-_, _^_, _<_}
 use mathlib.Core.Path.{_≡_, refl, sym, ap, _∙_}
-use mathlib.Core.Bool.{false}
+use mathlib.Core.Bool.{true, false, cond}
 use mathlib.Core.List.{List}
 use native.Mathlib.Nat.{add-zero, le-refl}
 use native.Mathlib.Omega.{arith}
+use borrow.Author.Tests.{ltb-true}
+use lib.Dec.{ltb}
 use lib.ListN.{length, getD, length-take}
 use lib.Seq.{take-all, getD-drop}
 use Rattle.text.specs.Bytes.{isBlank}
 use Rattle.text.specs.Texts.{part}
 use Rattle.text.specs.declared.Text.{Text}
+use Rattle.text.proofs.Lists.{cond-both}
 use Rattle.number.specs.Decimal.{parseBelow}
 use Rattle.number.specs.declared.Number.{Number}
 use Rattle.idcode.specs.Id.{parseId}
 use Rattle.idcode.specs.declared.IdCode.{IdCode}
 use Rattle.idcode.specs.declared.Parsed.{Parsed}
 use Rattle.command.specs.declared.Command.{Command}
-use Rattle.token.specs.Read.{Valid, most, rest, word, skipped, wordHere, token}
+use Rattle.token.specs.Read.{Valid, most, rest, word, token}
 use Rattle.token.specs.Flat.{wordRead, firstPassed}
 use Rattle.token.specs.declared.Cursor.{Cursor}
 use Rattle.token.specs.declared.Token.{Token}
@@ -24,12 +27,19 @@ use Rattle.token.proofs.Reading.{skip-stop}
 use Rattle.token.proofs.Words.{word-in, word-front, here-text}
 use Rattle.parser.specs.Plan.{answer, aNumber, anId, run}
 use Rattle.parser.specs.Parts.{wordFrom}
-use Rattle.parser.specs.Quick.{Whole}
+use Rattle.parser.specs.Quick.{Whole, endsAt}
 use Rattle.parser.specs.declared.IdRead.{IdRead}
 use Rattle.parser.specs.declared.Next.{Next}
 use Rattle.parser.specs.declared.NumberRead.{NumberRead}
 use Rattle.parser.proofs.Answers.{word-good, number-parsed, id-parsed}
 use Rattle.parser.proofs.Arms.{answered, number-on, id-on}
+
+-- some bytes, and a blank behind them
+pub ends-true : (s : List ℕ) (at e : ℕ) → endsAt s at e ≡ true → (at < e) × (e < length s) × (isBlank (getD s e 0) ≡ true)
+ends-true s at e h =
+    let p = cond-both (ltb at e) (cond (ltb e (length s)) (isBlank (getD s e 0)) false) h in
+    let q = cond-both (ltb e (length s)) (isBlank (getD s e 0)) (p .1) in
+    (ltb-true at e (p .0), ltb-true e (length s) (q .0), q .1)
 
 module _ (s : List ℕ) (c : Cursor) (v : Valid s c) (e : ℕ) (w : Whole s (c .place) e) where
   abbrev t : Text

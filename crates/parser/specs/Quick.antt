@@ -1,8 +1,9 @@
 -- What a quick pass over a token tells. An answer is held to the definitions of Plan.antt and Next.antt; these are only steps to them.
 use Prim.Native.Nat.{ℕ, _+_, _≤_, _<_, _^_}
 use mathlib.Core.Path.{_≡_}
-use mathlib.Core.Bool.{true}
+use mathlib.Core.Bool.{Bool, true, false, cond}
 use mathlib.Core.List.{List}
+use lib.Dec.{ltb}
 use lib.ListN.{length, drop, getD}
 use Rattle.text.specs.Bytes.{isBlank}
 use Rattle.text.specs.Utf8.{validUtf8}
@@ -30,3 +31,7 @@ QuickNumber s at Quick.Miss = Unit {0}
 abbrev pub QuickId : List ℕ → ℕ → Quick → Type 0
 QuickId s at (Quick.Hit v e) = Whole s at e × (parseId (word (drop at s)) ≡ Parsed.Code (record { 0 = v }))
 QuickId s at Quick.Miss = Unit {0}
+
+-- do some bytes stand from `at` to e, and a blank behind them?
+abbrev pub endsAt : List ℕ → ℕ → ℕ → Bool
+endsAt s at e = cond (ltb at e) (cond (ltb e (length s)) (isBlank (getD s e 0)) false) false

@@ -14,7 +14,7 @@ use token::Cursor;
 use token::Token;
 use value::Value;
 ghost use mathlib.Core.Path.{_≡_};
-ghost use Rattle.token.specs.Read.{Valid};
+ghost use Rattle.token.specs.Read.{Valid, values, token};
 ghost use Rattle.parser.specs.Plan.{run, anId, answer, timestamp, scalar, vector, real, string};
 
 pub fn parse_timestamp(input: &[u8], c: Cursor) -> Next
@@ -73,11 +73,31 @@ pub fn parse_vector(input: &[u8], c: Cursor) -> Next
     requires { ⌜ Valid (now input) c ⌝ }
     ensures { λ r. ⌜ r ≡ run vector (now (input .entry)) c ⌝ }
 {
-    let tok = token::read_values(input, c);
+    let tok = vector_values(input, c);
     match tok {
         Token::Word(t, behind) => vector_id(input, behind, t),
         Token::Refused(e, next) => Next::Refused(e, next.line, next),
     }
+}
+
+// The values of a vector. Where they stand at the cursor, as they mostly do, one pass is enough.
+fn vector_values(input: &[u8], c: Cursor) -> Token
+    requires { ⌜ Valid (now input) c ⌝ }
+    ensures { λ r. ⌜ r ≡ token (now (input .entry)) c values ⌝ }
+{
+    let start = c.place;
+    let end = token::values_end(input, start);
+    if quick::ends_values(input, start, end) {
+        let next = token::word_read(c, end, input[end]);
+        return Token::Word(
+            Text {
+                start,
+                len: end - start,
+            },
+            next,
+        );
+    }
+    token::read_values(input, c)
 }
 
 // The id behind the values t.

@@ -85,7 +85,8 @@ pub fn next_command(input: &[u8], c: Cursor) -> Next
             return Next::Done(token::end_read(from));
         }
         let b = input[at];
-        chosen(input, token::byte_read(from, b), kind_of(b))
+        // A byte behind the blanks is no newline, so none is pending.
+        chosen(input, token::word_end_read(from, at + 1), kind_of(b))
     } else {
         Next::Refused(Refusal::BadPlace, c.line, c)
     }

@@ -1,9 +1,9 @@
 // Quick passes: a token that stands at the cursor, judged in one pass as it is read. A hit tells its value and where the blank
-// stands that ends it. Whatever is unusual is a miss, and is left to the plain way of part.rt.
+// stands that ends it. Whatever is unusual is a miss, and is left to the plain way of part.rt and of `token`.
 ghost use Prim.Native.Nat.{_≤_};
 ghost use mathlib.Core.Path.{_≡_};
 ghost use lib.ListN.{length};
-ghost use Rattle.parser.specs.Quick.{QuickNumber, QuickId};
+ghost use Rattle.parser.specs.Quick.{QuickNumber, QuickId, endsAt};
 
 pub enum Quick {
     Hit(u64, usize),
@@ -100,4 +100,17 @@ pub fn quick_id(input: &[u8], at: usize) -> Quick
         power = power * 94;
         i += 1;
     }
+}
+
+// Whether some bytes stand from `at` to `end`, and a blank behind them.
+pub fn ends_values(input: &[u8], at: usize, end: usize) -> bool
+    ensures { λ r. ⌜ r ≡ endsAt (now (input .entry)) at end ⌝ }
+{
+    if end <= at {
+        return false;
+    }
+    if input.len() <= end {
+        return false;
+    }
+    text::whitespace_byte(input[end])
 }

@@ -12,12 +12,12 @@ use Rattle.value.specs.Values.{isValue, lower}
 use Rattle.token.specs.Read.{byteRead, endRead, after, gap, word, skipped, valuesIn, wordToken, wordHere, token, textTo, textFrom}
 use Rattle.parser.specs.Plan.{run, kindOf}
 use Rattle.parser.specs.Next.{isGood, found, nextFrom}
-use Rattle.parser.specs.All.{readOn, readAll}
+use Rattle.parser.specs.All.{commandsOn, commands, reading, readAll}
 use Rattle.points.specs.Points.{Asked, Told, points, tells}
 
 abbrev pub computed : Asked × Told → Asked × Told
 computed p = (p .0, tells (p .0))
 
 pub starred : map computed points ≡ points
-unfolding parseId isIdByte allId idTail sumFrom textOf parseIndex readAll readOn nextFrom isGood found kindOf run lookup skipped gap word after byteRead endRead token wordHere wordToken textFrom textTo valuesIn isBlank equal has starts upTo part isValue lower validUtf8 wellFormed dueAfter lies beginsWith blankAt blanks allWhite keptOf
+unfolding parseId isIdByte allId idTail sumFrom textOf parseIndex readAll reading commands commandsOn nextFrom isGood found kindOf run lookup skipped gap word after byteRead endRead token wordHere wordToken textFrom textTo valuesIn isBlank equal has starts upTo part isValue lower validUtf8 wellFormed dueAfter lies beginsWith blankAt blanks allWhite keptOf
 starred = refl

@@ -8,7 +8,7 @@ use native.Mathlib.Omega.{arith}
 use borrow.Author.Tests.{eq-eqb, ne-eqb}
 use lib.Dec.{eqb}
 use lib.ListN.{length, take, drop, length-drop}
-use lib.Seq.{drop-drop, drop-length, take-all}
+use lib.Seq.{drop-drop, drop-length}
 use Rattle.text.specs.WhiteSpace.{blankAt, blanks, allWhite, keptOf, Before, trimmed}
 use Rattle.text.proofs.Blank.{cond-le, inside, sync, none, one-more, run-within}
 use Rattle.text.proofs.Lists.{by-test, take-rest}

@@ -11,7 +11,7 @@ use lib.ListN.{length, getD, drop, replicate, drop-of-length-le}
 use lib.Seq.{drop-cons}
 use Rattle.text.specs.declared.utf8.Due.{Due}
 use Rattle.text.specs.Utf8.{Range, _to_, lies, Row, tail, table37, never, dueAfter, wellFormed, validUtf8, dueFrom, dueList}
-use Rattle.text.proofs.Lists.{both, either, and-false}
+use Rattle.text.proofs.Lists.{both, either, and-false, drop-step}
 
 -- ---- ranges
 
@@ -105,9 +105,13 @@ pub record Read (s : List ℕ) (d : Due) (i : ℕ) : Type 0 where
   pub within : i ≤ length s
   pub goes : wellFormed (drop i s) (dueList d) ≡ validUtf8 s
 
-pub read-start : (s : List ℕ) (low high : ℕ) → Read s (record { more = 0; low = low; high = high }) 0
+-- what stands from i on is judged as the whole is
+abbrev pub AsWhole : List ℕ → ℕ → Type 0
+AsWhole s i = (i ≤ length s) × (validUtf8 (drop i s) ≡ validUtf8 s)
+
+pub read-start : (s : List ℕ) (low high i : ℕ) → AsWhole s i → Read s (record { more = 0; low = low; high = high }) i
 unfolding validUtf8 dueFrom
-read-start s low high = record { within = omega arith; goes = refl }
+read-start s low high i w = record { within = w .0; goes = w .1 }
 
 pub read-more : (s : List ℕ) (d e : Due) (i : ℕ) → Read s d i → i < length s
     → Leaves (dueList d) (getD s i 0) (dueList e) → Read s e (i + 1)
@@ -138,12 +142,23 @@ pub valid-append : (a b : List ℕ) → validUtf8 a ≡ true → validUtf8 (a ++
 unfolding validUtf8
 valid-append a b e = well-append a b [] e
 
+-- a byte below 128 is a character
+pub ascii-first : (b : ℕ) (s : List ℕ) → b < 0x80 → validUtf8 (b ∷ s) ≡ validUtf8 s
+unfolding validUtf8 wellFormed dueAfter
+ascii-first b s h = rw (lies-in (0x00 to 0x7F) b (omega arith) (omega arith))
+
+pub ascii-passed : (s : List ℕ) (i : ℕ) → AsWhole s i → i < length s → getD s i 0 < 0x80 → AsWhole s (i + 1)
+ascii-passed s i w h a = (omega arith, sym (ascii-first (getD s i 0) (drop (i + 1) s) a) ∙ (rw (drop-step s i h) at (w .1)))
+
+pub empty-valid : validUtf8 [] ≡ true
+unfolding validUtf8 wellFormed
+empty-valid = refl
+
 -- bytes below 128 alone
 abbrev pub Ascii : List ℕ → Type 0
 Ascii [] = Unit {0}
 Ascii (b ∷ s) = (b < 0x80) × Ascii s
 
 pub ascii-valid : (s : List ℕ) → Ascii s → validUtf8 s ≡ true
-unfolding validUtf8 wellFormed dueAfter
-ascii-valid [] h = refl
-ascii-valid (b ∷ s) h = rw (lies-in (0x00 to 0x7F) b (omega arith) (omega (arith, h .0))) (ascii-valid s (h .1))
+ascii-valid [] h = empty-valid
+ascii-valid (b ∷ s) h = ascii-first b s (h .0) ∙ ascii-valid s (h .1)

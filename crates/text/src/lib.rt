@@ -37,10 +37,20 @@ pub enum Placed {
 pub fn whitespace_byte(b: u8) -> bool
     ensures { λ r. ⌜ r ≡ isBlank b ⌝ }
 {
-    match b {
-        b' ' | b'\n' | b'\r' | b'\t' => true,
-        _ => false,
+    // Nearly every byte is turned away here.
+    if b' ' < b {
+        return false;
     }
+    if b == b'\n' {
+        return true;
+    }
+    if b == b' ' {
+        return true;
+    }
+    if b == b'\r' {
+        return true;
+    }
+    b == b'\t'
 }
 
 // Whether a text lies in the buffer. No sum is made, so none wraps.

@@ -1,7 +1,8 @@
 // UTF-8: which byte texts are well formed, as Rust's from_utf8 judges.
 ghost use mathlib.Core.Path.{_≡_};
 ghost use mathlib.Core.List.{List, [], _∷_};
-ghost use Prim.Native.Nat.{ℕ};
+ghost use Prim.Native.Nat.{ℕ, _≤_};
+ghost use lib.ListN.{length, drop};
 ghost use Rattle.text.specs.Utf8.{table37, dueAfter, wellFormed, validUtf8, dueFrom, dueList, _to_};
 
 // How many bytes of a character are still due, and the range of the next of them.
@@ -74,6 +75,20 @@ fn next(d: Due, b: u8) -> Due
     due_from(more - 1, 0x80, 0xBF)
 }
 
+// How many bytes below 128 a text begins with: they need no further look, and are mostly all of it.
+fn ascii_end(s: &[u8]) -> usize
+    ensures { λ r. ⌜ (r ≤ length (now (s .entry))) × (validUtf8 (drop r (now (s .entry))) ≡ validUtf8 (now (s .entry))) ⌝ }
+{
+    let mut i: usize = 0;
+    while i < s.len() {
+        if 127 < s[i] {
+            return i;
+        }
+        i += 1;
+    }
+    i
+}
+
 // Whether a text is well-formed UTF-8.
 pub fn valid(s: &[u8]) -> bool
     ensures { λ r. ⌜ r ≡ validUtf8 (now (s .entry)) ⌝ }
@@ -83,7 +98,7 @@ pub fn valid(s: &[u8]) -> bool
         low: 0x80,
         high: 0xBF,
     };
-    let mut i: usize = 0;
+    let mut i = ascii_end(s);
     while i < s.len() {
         d = next(d, s[i]);
         i += 1;

@@ -6,7 +6,7 @@ use mathlib.Core.List.{List, [], _∷_, _++_}
 use native.Mathlib.Omega.{arith}
 use native.Mathlib.Nat.{add-zero}
 use lib.Dec.{eqb}
-use lib.ListN.{length, drop, getD, drop-of-length-le}
+use lib.ListN.{length, drop, getD, length-drop, drop-of-length-le}
 use lib.Seq.{drop-drop, drop-append-seam, take-append-seam, getD-drop}
 use Rattle.text.specs.Bytes.{isBlank, starts, holds, has, upTo, allBlank, noBlank}
 use Rattle.text.specs.Texts.{part}
@@ -116,6 +116,20 @@ module _ (s : List ℕ) (c : Cursor) where
   pub skip-end : length s ≤ c .place → skipped s c ≡ c
   unfolding skipped gap after
   skip-end h = rw (drop-of-length-le s h)
+
+-- the byte after the blanks is none
+gap-out : (r : List ℕ) → length (gap r) < length r → isBlank (getD r (length (gap r)) 0) ≡ false
+unfolding gap
+gap-out [] h = absurd (omega arith)
+gap-out (b ∷ r) h = by-test (isBlank b) (λ e. rw e (gap-out r (let k = rw e at h in omega arith))) (λ e. rw (e, e))
+
+pub skip-first : (s : List ℕ) (c : Cursor) → skipped s c .place < length s → isBlank (getD s (skipped s c .place) 0) ≡ false
+unfolding skipped
+skip-first s c h =
+    let r : List ℕ = rest s c in
+    let at : skipped s c .place ≡ c .place + length (gap r) = place-after (gap r) c in
+    let k : length (gap r) < length r = omega (arith, at, length-drop (c .place) s) in
+    rw (at, ← getD-drop (c .place) s (length (gap r)) 0) (gap-out r k)
 
 -- ---- blanks before, a blank behind
 pub gap-of : (g : List ℕ) (b : ℕ) (r : List ℕ) → allBlank g ≡ true → isBlank b ≡ false → gap (g ++ b ∷ r) ≡ g

@@ -14,11 +14,11 @@ use Rattle.text.proofs.Lists.{by-test, drop-step}
 use Rattle.value.specs.Values.{isValue}
 use Rattle.value.proofs.Values.{by-value}
 use Rattle.command.specs.declared.Refusal.the-variants.{UnexpectedEof}
-use Rattle.token.specs.Read.{Bound, values, passed, beyond, Valid, byteRead, endRead, after, rest, word, valuesIn, wordHere}
+use Rattle.token.specs.Read.{Bound, values, passed, beyond, Valid, byteRead, endRead, after, rest, word, valuesIn, wordHere, token}
 use Rattle.token.specs.Flat.{wordRead, wordEndRead, firstPassed}
 use Rattle.token.specs.declared.Cursor.{Cursor}
 use Rattle.token.specs.declared.Token.the-variants.{Word, Refused}
-use Rattle.token.proofs.Reading.{word-le}
+use Rattle.token.proofs.Reading.{word-le, skip-stop}
 use Rattle.token.proofs.Tokens.{token-long, token-eof, token-text}
 
 -- ---- one byte of a word, and where it ends
@@ -30,10 +30,6 @@ module _ (s : List ℕ) (i : ℕ) where
   pub word-stop : i < length s → isBlank (getD s i 0) ≡ true → word (drop i s) ≡ []
   unfolding word
   word-stop h e = rw (drop-step s i h, e)
-
-  pub word-none : length s ≤ i → word (drop i s) ≡ []
-  unfolding word
-  word-none h = rw (drop-of-length-le s h)
 
 -- no byte of a word is a blank
 pub word-in : (r : List ℕ) (i : ℕ) → i < length (word r) → isBlank (getD r i 0) ≡ false
@@ -63,6 +59,10 @@ word-front (b ∷ r) (suc n) h =
 solid : (b : ℕ) → isBlank b ≡ false → eqb b 10 ≡ false
 unfolding isBlank
 solid b e = by-test (eqb b 10) (λ q. absurd (true≢false (rw (eqb-true b 10 q) at e))) (λ q. q)
+
+pub solid-read : (c : Cursor) (b : ℕ) → isBlank b ≡ false → wordEndRead c (c .place + 1) ≡ byteRead c b
+unfolding byteRead wordEndRead
+solid-read c b e = rw (solid b e)
 
 -- the cursor after the first n bytes of a word, and the byte behind them
 pub behind : (r : List ℕ) (n : ℕ) (c : Cursor) → n ≤ length (word r) → n < length r
@@ -177,3 +177,17 @@ values-in [] = refl
 values-in (b ∷ r) =
     by-test (isValue b) (λ e. rw (e, solid-value b e, e) (ap suc (values-in r)))
     (λ e. by-test (isBlank b) (λ q. rw (e, q)) (λ q. rw (e, q, e)))
+
+-- values at the cursor, and a blank behind them: no blank stands before, so they are the token
+module _ (s : List ℕ) (c : Cursor) (end : ℕ) (v : Valid s c) (long : end ≡ c .place + valuesIn (rest s c)) where
+  values-first : c .place < end → c .place < length s → isBlank (getD s (c .place) 0) ≡ false
+  values-first h k =
+      by-test (isValue (getD s (c .place) 0)) (λ e. solid-value (getD s (c .place) 0) e)
+      (λ e. absurd (omega (arith, values-stop s (c .place) k e)))
+
+  pub values-here : c .place < end → end < length s → isBlank (getD s end 0) ≡ true
+      → Word (record { start = c .place; len = end - c .place }) (wordRead c end (getD s end 0)) ≡ token s c values
+  unfolding token
+  values-here h k e =
+      let passes : end ≡ c .place + length (firstPassed values (rest s c)) = omega (arith, values-in (rest s c)) in
+      rw (skip-stop s c (omega arith) (values-first h (omega arith))) (here-text s c values end v passes k e)

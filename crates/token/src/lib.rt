@@ -5,7 +5,7 @@ use command::Refusal;
 use text::Found;
 use text::Text;
 ghost use mathlib.Core.Path.{_≡_};
-ghost use Prim.Native.Nat.{_+_, _-_, _≤_, _<_};
+ghost use Prim.Native.Nat.{_+_, _-_, _≤_, _<_, min};
 ghost use lib.ListN.{length, take, drop};
 ghost use Rattle.token.specs.Read.{Valid, nextLine, byteRead, endRead, after, rest, word, skipped, valuesIn, Bound, most, values, beyond, token, wordHere, textFrom};
 ghost use Rattle.token.specs.Flat.{wordRead, wordEndRead, firstPassed};
@@ -100,24 +100,32 @@ pub fn skip(input: &[u8], c: Cursor) -> Cursor
     }
 }
 
+// The end of the input or of `limit` bytes from `at`, whichever comes first. No sum is made that could wrap.
+fn stop_at(size: usize, at: usize, limit: usize) -> usize
+    requires { ⌜ at ≤ size ⌝ }
+    ensures { λ r. ⌜ r ≡ min size (at + limit) ⌝ }
+{
+    if size - at < limit {
+        return size;
+    }
+    at + limit
+}
+
 // Where the word ends that starts at `at`; after `limit` bytes where it has more.
 fn word_end(input: &[u8], at: usize, limit: usize) -> usize
     requires { ⌜ at ≤ length (now input) ⌝ }
     ensures { λ r. ⌜ r ≡ at + length (take limit (word (drop at (now (input .entry))))) ⌝ }
 {
+    // One test a byte serves both ends.
+    let stop = stop_at(input.len(), at, limit);
     let mut i = at;
-    let mut left = limit;
-    while 0 < left {
-        if input.len() <= i {
-            return i;
-        }
+    while i != stop {
         if text::whitespace_byte(input[i]) {
             return i;
         }
         i += 1;
-        left -= 1;
     }
-    i
+    stop
 }
 
 // The next token, of at most `limit` bytes, with the blank that ends it.
@@ -157,7 +165,7 @@ fn token_to(input: &[u8], c: Cursor, end: usize, reason: Refusal) -> Token
 }
 
 // Where the values end that start at `at`.
-fn values_end(input: &[u8], at: usize) -> usize
+pub fn values_end(input: &[u8], at: usize) -> usize
     requires { ⌜ at ≤ length (now input) ⌝ }
     ensures { λ r. ⌜ r ≡ at + valuesIn (drop at (now (input .entry))) ⌝ }
 {

@@ -25,7 +25,25 @@ fn main() -> io::Result<()> {
     for n in chosen(args::kind(2, usage), &pool) {
         stream::put(&mut out, &pool[n])?;
     }
+    if args::kind(2, usage) == Kind::Read {
+        for (case, begins) in points() {
+            let answer = Kind::Read.answer(0, &case);
+            assert!(answer.starts_with(&format!("case 0\n{begins} ")), "{answer}");
+            stream::put(&mut out, &case)?;
+        }
+    }
     out.flush()
+}
+
+/// The points of reading in document 01 that carry no star, with what it says of them. They stand behind the chosen cases.
+fn points() -> [(Vec<u8>, &'static str); 4] {
+    let of = |first: u8, byte: u8, many: usize| [vec![first], vec![byte; many], vec![b'\n']].concat();
+    [
+        (of(b'#', b'0', 32), "time 0"),
+        (of(b'#', b'0', 33), "refused 4"),
+        (of(b'$', b'q', 16), "refused 7"),
+        (of(b'$', b'q', 17), "refused 4"),
+    ]
 }
 
 /// The first cases, those with a mark that is still rare, and then others spread over the pool.

@@ -6,10 +6,11 @@ use native.Mathlib.Omega.{arith}
 use borrow.Author.Needs.{needs}
 use borrow.Author.Tests.{lt-ltb, le-ltb}
 use denote.Ref.{now}
-use lib.ListN.{length}
-use Rattle.token.specs.Read.{Valid}
-use Rattle.token.proofs.Reading.{valid-step}
+use lib.ListN.{length, getD}
+use Rattle.token.specs.Read.{Valid, byteRead}
+use Rattle.token.proofs.Reading.{valid-step, skip-first}
 use Rattle.token.proofs.Tokens.{skipped-valid}
+use Rattle.token.proofs.Words.{solid-read}
 use Rattle.parser.specs.Next.{isGood, found, nextFrom}
 use Rattle.parser.proofs.Ahead.{good-valid}
 use Rattle.parser.proofs.next_command.Statement.{statement}
@@ -40,22 +41,35 @@ returns c =
 shared-slice-read-b : tie.Need-shared-slice-read-b
 shared-slice-read-b c = search needs
 
-byte-read-requires : tie.Need-byte-read-requires
-byte-read-requires c κs = omega (arith, start-valid (c .before .before))
+add-word-end-read : tie.Need-add-word-end-read
+add-word-end-read c = search needs
+
+word-end-read-requires : tie.Need-word-end-read-requires
+word-end-read-requires c κs = omega (arith, start-valid (c .before .before))
 
 kind-of-requires : tie.Need-kind-of-requires
 kind-of-requires c κs = search needs
 
+-- the first byte after the blanks is none, so no newline
+first-read : (c : tie.After-word-end-read)
+    → let s = now (c .before .before .before .before .before .before .before .args .input) in let from = c .before .before .before .skip .result in
+    c .word-end-read .result ≡ byteRead from (getD s (from .place) 0)
+first-read c =
+    let k = c .before .before .before in
+    let s = now (k .before .before .before .before .args .input) in
+    c .word-end-read .ensures
+    ∙ solid-read (k .skip .result) _ (rw (k .skip .ensures) (skip-first s _ (rw (k .skip .ensures) at (c .before .before .if2 .left))))
+
 chosen-requires : tie.Need-chosen-requires
 chosen-requires c κs =
-    rw (c .before .byte-read .ensures) (valid-step _ _ _ (start-valid (c .before .before .before .before)) (c .before .before .before .if2 .left))
+    rw (first-read (c .before)) (valid-step _ _ _ (start-valid (c .before .before .before .before)) (c .before .before .before .if2 .left))
 
 returns-2 : tie.Need-returns-2
 unfolding nextFrom found
 returns-2 c =
     let b = c .before .before in
     let k = b .before .before .before in
-    rw (is-good (k .before), ← k .skip .ensures, lt-ltb _ _ (b .before .before .if2 .left), ← c .before .kind-of .ensures, ← b .byte-read .ensures) (c .chosen .ensures)
+    rw (is-good (k .before), ← k .skip .ensures, lt-ltb _ _ (b .before .before .if2 .left), ← c .before .kind-of .ensures, ← first-read b) (c .chosen .ensures)
 
 returns-3 : tie.Need-returns-3
 unfolding nextFrom
@@ -70,7 +84,8 @@ next-command-spec =
     end-read-requires
     returns
     shared-slice-read-b
-    byte-read-requires
+    add-word-end-read
+    word-end-read-requires
     kind-of-requires
     chosen-requires
     returns-2

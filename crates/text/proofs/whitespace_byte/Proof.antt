@@ -1,22 +1,29 @@
 -- `text::whitespace_byte` meets its contract. Assumes nothing.
 use mathlib.Core.Path.{sym}
-use mathlib.Core.Logic.{inl, inr, ⊎-elim}
-use native.Mathlib.Omega.{arith}
-use Rattle.text.proofs.Blanks.{blank-no, blank-yes}
+use borrow.Author.Tests.{ne-eqb}
+use Rattle.text.specs.Bytes.{isBlank}
+use Rattle.text.proofs.Blanks.{solid}
 use Rattle.text.proofs.whitespace_byte.Statement.{statement}
 use Rattle.text.proofs.whitespace_byte.Tie as tie
 
 returns : tie.Need-returns
-returns c = let no = c .before .match .rest .1 in sym (blank-no _ (λ e. no (inr e)) (λ e. omega arith) (λ e. no (inl e)) (λ e. omega arith))
+returns c = sym (solid _ (c .if1 .taken))
 
 returns-2 : tie.Need-returns-2
-returns-2 c = let no = c .before .before .match .rest .1 in sym (blank-no _ (λ e. no (inr e)) (λ e. omega arith) (λ e. no (inl e)) (λ e. omega arith))
+unfolding isBlank
+returns-2 c = rw (c .if2 .taken)
 
 returns-3 : tie.Need-returns-3
-returns-3 c = sym (blank-yes _ (λ p q r t. ⊎-elim r p (c .match .keys1)))
+unfolding isBlank
+returns-3 c = rw (c .if3 .taken)
 
 returns-4 : tie.Need-returns-4
-returns-4 c = sym (blank-yes _ (λ p q r t. omega arith))
+unfolding isBlank
+returns-4 c = rw (c .if4 .taken)
+
+returns-5 : tie.Need-returns-5
+unfolding isBlank
+returns-5 c = rw (ne-eqb _ _ (c .before .if3 .left), ne-eqb _ _ (c .before .before .if2 .left), ne-eqb _ _ (c .if4 .left))
 
 pub whitespace-byte-spec : {M : Type 1} → statement M
-whitespace-byte-spec = tie.close (tie.spec returns returns-2 returns-3 returns-4)
+whitespace-byte-spec = tie.close (tie.spec returns returns-2 returns-3 returns-4 returns-5)

@@ -1,43 +1,40 @@
 -- `token::word_end` meets its contract. Assumes nothing.
-use Prim.Native.Nat.{_+_, _≤_, min}
+use Prim.Native.Nat.{_+_, _-_, _≤_}
 use mathlib.Core.Path.{_≡_, refl, sym, ap, _∙_}
 use native.Mathlib.Omega.{arith}
-use lib.ListN.{length, drop, length-take}
+use lib.ListN.{length, drop, length-take, length-drop}
 use denote.Ref.{now}
 use borrow.Author.Needs.{needs}
 use Rattle.token.specs.Read.{word}
-use Rattle.token.proofs.Words.{word-step, word-stop, word-none}
+use Rattle.token.proofs.Reading.{word-le}
+use Rattle.token.proofs.Words.{word-step, word-stop}
 use Rattle.token.proofs.word_end.Statement.{statement}
 use Rattle.token.proofs.word_end.Tie as tie
 
 abbrev Inv-loop : tie.InvT-loop
-Inv-loop input at limit i₀ left₀ i left = (i ≤ length input) × (at + min limit (length (word (drop at input))) ≡ i + min left (length (word (drop i input))))
+Inv-loop input at limit stop i₀ i = (at ≤ i) × (i ≤ stop) × (at + length (word (drop at input)) ≡ i + length (word (drop i input)))
 
 abbrev μ-loop : tie.MeasureT-loop
-μ-loop input at limit i₀ left₀ i left = left
+μ-loop input at limit stop i₀ i = stop - i
+
+stop-at-requires : tie.Need-stop-at-requires Inv-loop μ-loop
+stop-at-requires c κs = search needs
 
 loop-holds : tie.Need-loop-holds Inv-loop μ-loop
-loop-holds c = (search needs, refl)
-
-returns : tie.Need-returns Inv-loop μ-loop
-returns c =
-    rw length-take (omega (arith, ap length (word-none (now (c .before .before .before .before .args .input)) (c .before .before .loop .i) (c .if1 .taken))))
+loop-holds c = (omega arith, omega (arith, c .stop-at .ensures), refl)
 
 shared-slice-read-whitespace-byte : tie.Need-shared-slice-read-whitespace-byte Inv-loop μ-loop
-shared-slice-read-whitespace-byte c = search needs
+shared-slice-read-whitespace-byte c = omega (arith, c .before .before .before .stop-at .ensures)
 
 whitespace-byte-requires : tie.Need-whitespace-byte-requires Inv-loop μ-loop
 whitespace-byte-requires c κs = tt
 
-returns-2 : tie.Need-returns-2 Inv-loop μ-loop
-returns-2 c =
-    rw length-take (omega (arith, ap length (word-stop (now (c .before .before .before .before .before .before .before .args .input)) (c .before .before .before .before .before .loop .i) (c .before .before .before .if1 .left) (sym (c .before .whitespace-byte .ensures) ∙ c .if2 .taken))))
+returns : tie.Need-returns Inv-loop μ-loop
+returns c =
+    rw length-take (omega (arith, c .before .before .before .before .before .stop-at .ensures, ap length (word-stop (now (c .before .before .before .before .before .before .before .args .input)) (c .before .before .before .before .loop .i) (omega (arith, c .before .before .before .before .before .stop-at .ensures)) (sym (c .before .whitespace-byte .ensures) ∙ c .if1 .taken))))
 
 add-i : tie.Need-add-i Inv-loop μ-loop
 add-i c = search needs
-
-sub-left : tie.Need-sub-left Inv-loop μ-loop
-sub-left c = search needs
 
 loop-less : tie.Need-loop-less Inv-loop μ-loop
 loop-less c = search needs
@@ -45,11 +42,15 @@ loop-less c = search needs
 loop-again : tie.Need-loop-again Inv-loop μ-loop
 loop-again c = (
   omega arith,
-  omega (arith, ap length (word-step (now (c .before .before .before .before .before .before .before .args .input)) (c .before .before .before .before .before .loop .i) (c .before .before .before .if1 .left) (sym (c .before .whitespace-byte .ensures) ∙ c .if2 .left))),
+  omega arith,
+  omega (arith, ap length (word-step (now (c .before .before .before .before .before .before .before .args .input)) (c .before .before .before .before .loop .i) (omega (arith, c .before .before .before .before .before .stop-at .ensures)) (sym (c .before .whitespace-byte .ensures) ∙ c .if1 .left))),
 )
 
-returns-3 : tie.Need-returns-3 Inv-loop μ-loop
-returns-3 c = rw length-take (omega arith)
+returns-2 : tie.Need-returns-2 Inv-loop μ-loop
+returns-2 c =
+    let s = now (c .before .before .before .before .args .input) in
+    let i = c .before .loop .i in
+    rw length-take (omega (arith, c .before .before .stop-at .ensures, word-le (drop i s), length-drop i s))
 
 pub word-end-spec : {M : Type 1} → statement M
 word-end-spec =
@@ -57,13 +58,12 @@ word-end-spec =
     (tie.spec
     Inv-loop
     μ-loop
+    stop-at-requires
     loop-holds
-    returns
     shared-slice-read-whitespace-byte
     whitespace-byte-requires
-    returns-2
+    returns
     add-i
-    sub-left
     loop-less
     loop-again
-    returns-3)
+    returns-2)

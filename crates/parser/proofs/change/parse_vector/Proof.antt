@@ -6,29 +6,29 @@ use borrow.Author.Needs.{needs}
 use Rattle.parser.proofs.change.parse_vector.Statement.{statement}
 use Rattle.parser.proofs.change.parse_vector.Tie as tie
 
-read-values-requires : tie.Need-read-values-requires
-read-values-requires c κs = search needs
+vector-values-requires : tie.Need-vector-values-requires
+vector-values-requires c κs = search needs
 
 enum-known-tok : tie.Need-enum-known-tok
 enum-known-tok c = search needs
 
 vector-id-requires : tie.Need-vector-id-requires
-vector-id-requires c κs = token-next (c .before .before .before .before .before .pre) _ (c .before .before .before .read-values .ensures) (c .before .tok .given .1)
+vector-id-requires c κs = token-next (c .before .before .before .before .before .pre) _ (c .before .before .before .vector-values .ensures) (c .before .tok .given .1)
 
 enum-known-tok-2 : tie.Need-enum-known-tok-2
 enum-known-tok-2 c = search needs
 
 returns : tie.Need-returns
-returns c = token-on (c .before .before .before .before .before .before .pre) _ (c .before .before .before .before .read-values .ensures) (λ t w. anId (λ i. answer (Command.ChangeVector i t))) (c .before .before .tok .given .1) (c .vector-id .ensures)
+returns c = token-on (c .before .before .before .before .before .before .pre) _ (c .before .before .before .before .vector-values .ensures) (λ t w. anId (λ i. answer (Command.ChangeVector i t))) (c .before .before .tok .given .1) (c .vector-id .ensures)
 
 returns-2 : tie.Need-returns-2
-returns-2 c = token-off (c .before .before .before .before .before .pre) _ (c .before .before .before .read-values .ensures) (λ t w. anId (λ i. answer (Command.ChangeVector i t))) (c .before .tok2 .given .1)
+returns-2 c = token-off (c .before .before .before .before .before .pre) _ (c .before .before .before .vector-values .ensures) (λ t w. anId (λ i. answer (Command.ChangeVector i t))) (c .before .tok2 .given .1)
 
 pub parse-vector-spec : {M : Type 1} → statement M
 parse-vector-spec =
     tie.close
     (tie.spec
-    read-values-requires
+    vector-values-requires
     enum-known-tok
     vector-id-requires
     enum-known-tok-2

@@ -12,8 +12,11 @@ Inv-loop s d₀ i₀ d i = Read s d i
 abbrev μ-loop : tie.MeasureT-loop
 μ-loop s d₀ i₀ d i = length s - i
 
+ascii-end-requires : tie.Need-ascii-end-requires Inv-loop μ-loop
+ascii-end-requires c κs = tt
+
 loop-holds : tie.Need-loop-holds Inv-loop μ-loop
-loop-holds c = read-start _ _ _
+loop-holds c = read-start _ _ _ _ (c .ascii-end .ensures)
 
 shared-slice-read-next : tie.Need-shared-slice-read-next Inv-loop μ-loop
 shared-slice-read-next c = search needs
@@ -36,6 +39,7 @@ valid-spec =
     (tie.spec
     Inv-loop
     μ-loop
+    ascii-end-requires
     loop-holds
     shared-slice-read-next
     (λ c κs. tt)
