@@ -1,9 +1,21 @@
 // What the replay programs share: the stream of cases that they read, and the canonical form of docs/ORACLE.md that they print.
 // Nothing is promised of these but that they are safe and end: what they print is held to the oracle's answers.
+use command::Open;
+use idcode::IdCode;
+use number::Number;
 use scope::ReferenceIndex;
+use scope::ScopeType;
+use scope::VarType;
 use text::Spelled;
 use text::Text;
+use timescale::TimescaleUnit;
 ghost use Prim.Native.Nat.{_≤_, _<_};
+pub use console::front;
+pub use console::least;
+pub use console::put;
+pub use console::put_byte;
+pub use console::read_input;
+pub use console::write_front;
 
 // The bytes of a case, by place; or the end of the stream.
 pub enum Case {
@@ -59,27 +71,90 @@ pub fn behind(input: &[u8], t: Text) -> usize {
     start + len + 1
 }
 
-// Puts `word` into `out` from `at` on, as far as there is room, and answers the place behind it. So do all that follow.
-pub fn put(out: &mut [u8], at: usize, word: &[u8]) -> usize {
-    let mut o = at;
-    let mut i = 0;
-    while i < word.len() {
-        if out.len() <= o {
-            return o;
-        }
-        out[o] = word[i];
-        o += 1;
-        i += 1;
-    }
-    o
+// The next case of a stream that is read a buffer at a time, and how many bytes of the buffer are filled.
+pub struct Fed {
+    pub case: Case,
+    pub have: usize,
 }
 
-pub fn put_byte(out: &mut [u8], at: usize, b: u8) -> usize {
-    if out.len() <= at {
+// The case at `at`; where the buffer has not the whole of it, the rest is read on behind what is there of it.
+pub fn next_case(buf: &mut [u8], at: usize, have: usize) -> Fed {
+    let case = case_at(front(buf, have), at);
+    if let Case::At(_) = case {
+        return Fed { case, have };
+    }
+    let kept = to_front(buf, at, have);
+    let filled = read_on(buf, kept);
+    let more = case_at(front(buf, filled), 0);
+    Fed {
+        case: more,
+        have: filled,
+    }
+}
+
+// Moves the bytes from `at` to `have` to the front, and answers how many they are.
+fn to_front(buf: &mut [u8], at: usize, have: usize) -> usize {
+    let mut i: usize = 0;
+    let mut from = at;
+    while from < have {
+        if buf.len() <= from {
+            return i;
+        }
+        buf[i] = buf[from];
+        i += 1;
+        from += 1;
+    }
+    i
+}
+
+// Fills the buffer from `at` on, and answers where it is filled to.
+fn read_on(buf: &mut [u8], at: usize) -> usize {
+    if buf.len() < at {
         return at;
     }
-    out[at] = b;
-    at + 1
+    let room = buf.len() - at;
+    at + least(read_input(&mut buf[at..]), room)
+}
+
+// The line that begins at `at`, without its LF.
+pub fn line_at(case: &[u8], at: usize) -> Text {
+    let rest = text::part(
+        case,
+        Text {
+            start: at,
+            len: case.len(),
+        },
+    );
+    let len = span(rest, b'\n');
+    Text { start: at, len }
+}
+
+// How many bytes stand before the first `b`.
+pub fn span(s: &[u8], b: u8) -> usize {
+    let mut n = 0;
+    while n < s.len() {
+        if s[n] == b {
+            return n;
+        }
+        n += 1;
+    }
+    n
+}
+
+// The number that a text means; 0 where it means none.
+pub fn number_in(s: &[u8]) -> u64 {
+    let n = number::parse_u64(s);
+    match n {
+        Number::Is(v) => v,
+        Number::Refused => 0,
+    }
+}
+
+// The line that begins a case's answer.
+pub fn put_case(out: &mut [u8], at: usize, number: u64) -> usize {
+    let o = put(out, at, b"case");
+    let p = put_number(out, o, number);
+    put_byte(out, p, b'\n')
 }
 
 // A space and the short text.
@@ -148,51 +223,55 @@ pub fn put_index(out: &mut [u8], at: usize, x: ReferenceIndex) -> usize {
     }
 }
 
-// The first n bytes of a buffer, as far as it goes.
-pub fn front(s: &[u8], n: usize) -> &[u8] {
-    text::part(s, Text { start: 0, len: n })
+// A name and the text at a place of `s`. Likewise a scope, a variable and a timescale.
+pub fn put_named(out: &mut [u8], at: usize, name: &[u8], s: &[u8], t: Text) -> usize {
+    let o = put(out, at, name);
+    put_text(out, o, text::part(s, t))
 }
 
-// Writes the first n bytes of a buffer to standard output. A write that fails ends it.
-pub fn write_front(s: &[u8], n: usize) {
-    let text = front(s, n);
-    let mut done: usize = 0;
-    while done < text.len() {
-        let room = text.len() - done;
-        let put = moved(libc::write(1, &text[done..]), room);
-        if put == 0 {
-            return;
-        }
-        done += put;
+pub fn put_scope(out: &mut [u8], at: usize, k: ScopeType, s: &[u8], t: Text) -> usize {
+    let o = put(out, at, b"scope");
+    let p = put_word(out, o, k.spell());
+    put_text(out, p, text::part(s, t))
+}
+
+pub fn put_var(
+    out: &mut [u8],
+    at: usize,
+    k: VarType,
+    width: u32,
+    id: IdCode,
+    s: &[u8],
+    t: Text,
+    x: ReferenceIndex,
+) -> usize {
+    let o = put(out, at, b"var");
+    let p = put_word(out, o, k.spell());
+    let q = put_number(out, p, width as u64);
+    let r = put_number(out, q, id.0);
+    let u = put_text(out, r, text::part(s, t));
+    put_index(out, u, x)
+}
+
+pub fn put_timescale(out: &mut [u8], at: usize, n: u32, unit: TimescaleUnit) -> usize {
+    let o = put(out, at, b"timescale");
+    let p = put_number(out, o, n as u64);
+    put_word(out, p, unit.spell())
+}
+
+// A space and the open simulation command's name, or `-`.
+pub fn put_open(out: &mut [u8], at: usize, o: Open) -> usize {
+    match o {
+        Open::None => put(out, at, b" -"),
+        Open::Of(k) => put_word(out, at, k.spell()),
     }
 }
 
-// Reads standard input until it ends, a read fails or the buffer is full.
-pub fn read_input(buf: &mut [u8]) -> usize {
-    let mut n: usize = 0;
-    while n < buf.len() {
-        let room = buf.len() - n;
-        let got = moved(libc::read(0, &mut buf[n..]), room);
-        if got == 0 {
-            return n;
-        }
-        n += got;
+// Writes what is answered once the buffer is half full, and answers how much of it is used then.
+pub fn flush(out: &[u8], used: usize) -> usize {
+    if used <= out.len() / 2 {
+        return used;
     }
-    n
-}
-
-// How many bytes a call moved, of `most` that it was handed; none where it failed.
-fn moved(got: isize, most: usize) -> usize
-    ensures { λ r. ⌜ r ≤ most ⌝ }
-{
-    if got <= 0 {
-        return 0;
-    }
-    least(got as usize, most)
-}
-
-fn least(a: usize, b: usize) -> usize
-    ensures { λ r. ⌜ r ≤ b ⌝ }
-{
-    if a < b { a } else { b }
+    write_front(out, used);
+    0
 }

@@ -5,7 +5,7 @@ use idcode::IdCode;
 use parser::Next;
 use replay::put;
 use replay::put_byte;
-use replay::put_index;
+use replay::put_named;
 use replay::put_number;
 use replay::put_text;
 use replay::put_values;
@@ -14,9 +14,7 @@ use text::Text;
 use token::Cursor;
 
 pub fn answer(case: &[u8], number: u64, out: &mut [u8], at: usize) -> usize {
-    let mut o = put(out, at, b"case");
-    o = put_number(out, o, number);
-    o = put_byte(out, o, b'\n');
+    let mut o = replay::put_case(out, at, number);
     let mut c = parser::start();
     let mut refusals: u64 = 0;
     // Every answer takes a byte, refuses or ends, so this many are enough.
@@ -61,28 +59,13 @@ fn put_place(out: &mut [u8], at: usize, line: u64, c: Cursor) -> usize {
 
 fn put_command(out: &mut [u8], at: usize, s: &[u8], k: Command) -> usize {
     match k {
-        Command::Comment(t) => named_text(out, at, b"comment", s, t),
-        Command::Date(t) => named_text(out, at, b"date", s, t),
-        Command::Version(t) => named_text(out, at, b"version", s, t),
-        Command::Timescale(n, u) => {
-            let o = put(out, at, b"timescale");
-            let p = put_number(out, o, n as u64);
-            put_word(out, p, u.spell())
-        }
-        Command::ScopeDef(k, t) => {
-            let o = put(out, at, b"scope");
-            let p = put_word(out, o, k.spell());
-            put_text(out, p, text::part(s, t))
-        }
+        Command::Comment(t) => put_named(out, at, b"comment", s, t),
+        Command::Date(t) => put_named(out, at, b"date", s, t),
+        Command::Version(t) => put_named(out, at, b"version", s, t),
+        Command::Timescale(n, u) => replay::put_timescale(out, at, n, u),
+        Command::ScopeDef(k, t) => replay::put_scope(out, at, k, s, t),
         Command::Upscope => put(out, at, b"upscope"),
-        Command::VarDef(k, n, i, t, x) => {
-            let o = put(out, at, b"var");
-            let p = put_word(out, o, k.spell());
-            let q = put_number(out, p, n as u64);
-            let r = put_number(out, q, i.0);
-            let u = put_text(out, r, text::part(s, t));
-            put_index(out, u, x)
-        }
+        Command::VarDef(k, n, i, t, x) => replay::put_var(out, at, k, n, i, s, t, x),
         Command::Enddefinitions => put(out, at, b"enddefinitions"),
         Command::Timestamp(t) => {
             let o = put(out, at, b"time");
@@ -110,11 +93,6 @@ fn put_command(out: &mut [u8], at: usize, s: &[u8], k: Command) -> usize {
             put_word(out, o, k.spell())
         }
     }
-}
-
-fn named_text(out: &mut [u8], at: usize, name: &[u8], s: &[u8], t: Text) -> usize {
-    let o = put(out, at, name);
-    put_text(out, o, text::part(s, t))
 }
 
 fn change_text(out: &mut [u8], at: usize, name: &[u8], i: IdCode, s: &[u8], t: Text) -> usize {

@@ -12,17 +12,8 @@ Inv-loop case number out₀ at o₀ c₀ refusals₀ turns₀ t17 out o c refusa
 abbrev μ-loop : tie.MeasureT-loop
 μ-loop case number out₀ at o₀ c₀ refusals₀ turns₀ t17 out o c refusals turns = 4294967296 - turns
 
-slice-aggregate-put : tie.Need-slice-aggregate-put Inv-loop μ-loop
-slice-aggregate-put c = search needs
-
-put-requires : tie.Need-put-requires Inv-loop μ-loop
-put-requires c κs = search needs
-
-put-number-requires : tie.Need-put-number-requires Inv-loop μ-loop
-put-number-requires c κs = search needs
-
-put-byte-requires : tie.Need-put-byte-requires Inv-loop μ-loop
-put-byte-requires c κs = search needs
+put-case-requires : tie.Need-put-case-requires Inv-loop μ-loop
+put-case-requires c κs = search needs
 
 start-requires : tie.Need-start-requires Inv-loop μ-loop
 start-requires c κs = search needs
@@ -75,11 +66,11 @@ loop-again-2 c = search needs
 enum-known-next-3 : tie.Need-enum-known-next-3 Inv-loop μ-loop
 enum-known-next-3 c = search needs
 
-slice-aggregate-put-2 : tie.Need-slice-aggregate-put-2 Inv-loop μ-loop
-slice-aggregate-put-2 c = search needs
+slice-aggregate-put : tie.Need-slice-aggregate-put Inv-loop μ-loop
+slice-aggregate-put c = search needs
 
-put-requires-2 : tie.Need-put-requires-2 Inv-loop μ-loop
-put-requires-2 c κs = search needs
+put-requires : tie.Need-put-requires Inv-loop μ-loop
+put-requires c κs = search needs
 
 put-place-requires-2 : tie.Need-put-place-requires-2 Inv-loop μ-loop
 put-place-requires-2 c κs = search needs
@@ -102,10 +93,7 @@ answer-spec =
     (tie.spec
     Inv-loop
     μ-loop
-    slice-aggregate-put
-    put-requires
-    put-number-requires
-    put-byte-requires
+    put-case-requires
     start-requires
     loop-holds
     add-turns
@@ -123,8 +111,8 @@ answer-spec =
     loop-less-2
     loop-again-2
     enum-known-next-3
-    slice-aggregate-put-2
-    put-requires-2
+    slice-aggregate-put
+    put-requires
     put-place-requires-2
     same-length-2
     returns-2

@@ -1,10 +1,10 @@
--- `replay::read_input` is safe and ends. The loop's invariant: `buf` keeps its length, and `n` is within it. Assumes what libc says of `read`.
+-- `console::read_input` is safe and ends. The loop's invariant: `buf` keeps its length, and `n` is within it. Assumes what libc says of `read`.
 use Prim.Native.Nat.{_-_, _≤_}
 use mathlib.Core.Path.{_≡_}
 use lib.ListN.{length}
 use borrow.Author.Needs.{needs}
-use Rattle.replay.proofs.read_input.Statement.{statement}
-use Rattle.replay.proofs.read_input.Tie as tie
+use Rattle.console.proofs.read_input.Statement.{statement}
+use Rattle.console.proofs.read_input.Tie as tie
 
 abbrev Inv-loop : tie.InvT-loop
 Inv-loop buf₀ n₀ buf n = (length buf ≡ length buf₀) × (n ≤ length buf₀)

@@ -1,16 +1,16 @@
--- `replay::put` is safe and ends. The loop's invariant: `out` keeps its length. Assumes nothing.
-use Prim.Native.Nat.{_-_}
+-- `replay::to_front` is safe and ends. The loop's invariant: the bytes move down, and the buffer keeps its length. Assumes nothing.
+use Prim.Native.Nat.{_-_, _≤_}
 use mathlib.Core.Path.{_≡_}
 use lib.ListN.{length}
 use borrow.Author.Needs.{needs}
-use Rattle.replay.proofs.put.Statement.{statement}
-use Rattle.replay.proofs.put.Tie as tie
+use Rattle.replay.proofs.to_front.Statement.{statement}
+use Rattle.replay.proofs.to_front.Tie as tie
 
 abbrev Inv-loop : tie.InvT-loop
-Inv-loop out₀ at word o₀ i₀ out o i = length out ≡ length out₀
+Inv-loop buf₀ at have i₀ from₀ buf i from = (i ≤ from) × (length buf ≡ length buf₀)
 
 abbrev μ-loop : tie.MeasureT-loop
-μ-loop out₀ at word o₀ i₀ out o i = length word - i
+μ-loop buf₀ at have i₀ from₀ buf i from = have - from
 
 loop-holds : tie.Need-loop-holds Inv-loop μ-loop
 loop-holds c = search needs
@@ -21,17 +21,17 @@ same-length c = search needs
 returns : tie.Need-returns Inv-loop μ-loop
 returns c = search needs
 
-shared-slice-read-out : tie.Need-shared-slice-read-out Inv-loop μ-loop
-shared-slice-read-out c = search needs
+slice-read-buf : tie.Need-slice-read-buf Inv-loop μ-loop
+slice-read-buf c = search needs
 
-slice-write-out : tie.Need-slice-write-out Inv-loop μ-loop
-slice-write-out c = search needs
-
-add-o : tie.Need-add-o Inv-loop μ-loop
-add-o c = search needs
+slice-write-buf : tie.Need-slice-write-buf Inv-loop μ-loop
+slice-write-buf c = search needs
 
 add-i : tie.Need-add-i Inv-loop μ-loop
 add-i c = search needs
+
+add-from : tie.Need-add-from Inv-loop μ-loop
+add-from c = search needs
 
 loop-less : tie.Need-loop-less Inv-loop μ-loop
 loop-less c = search needs
@@ -45,8 +45,8 @@ same-length-2 c = search needs
 returns-2 : tie.Need-returns-2 Inv-loop μ-loop
 returns-2 c = search needs
 
-pub put-spec : {M : Type 1} → statement M
-put-spec =
+pub to-front-spec : {M : Type 1} → statement M
+to-front-spec =
     tie.close
     (tie.spec
     Inv-loop
@@ -54,10 +54,10 @@ put-spec =
     loop-holds
     same-length
     returns
-    shared-slice-read-out
-    slice-write-out
-    add-o
+    slice-read-buf
+    slice-write-buf
     add-i
+    add-from
     loop-less
     loop-again
     same-length-2

@@ -1,9 +1,9 @@
--- `replay::write_front` is safe and ends. The loop's invariant: `done` is within the text. Assumes what libc says of `write`.
+-- `console::write_front` is safe and ends. The loop's invariant: `done` is within the text. Assumes what libc says of `write`.
 use Prim.Native.Nat.{_-_, _≤_}
 use lib.ListN.{length}
 use borrow.Author.Needs.{needs}
-use Rattle.replay.proofs.write_front.Statement.{statement}
-use Rattle.replay.proofs.write_front.Tie as tie
+use Rattle.console.proofs.write_front.Statement.{statement}
+use Rattle.console.proofs.write_front.Tie as tie
 
 abbrev Inv-loop : tie.InvT-loop
 Inv-loop s n text done₀ done = done ≤ length text

@@ -1,4 +1,4 @@
--- `replay::moved` answers at most what was handed over. `above`: what is above zero fits a number without a sign. Assumes nothing.
+-- `console::moved` answers at most what was handed over. `above`: what is above zero fits a number without a sign. Assumes nothing.
 use mathlib.Core.Path.{_≡_, sym}
 use mathlib.Core.Bool.{false, false≢true}
 use native.Mathlib.Omega.{arith}
@@ -10,8 +10,8 @@ use mir.Syntax.{w64}
 use mir.Val.{Fits, SFits, ofZ, toZ}
 use mir.ValLaws.{toZ-ofZ}
 use borrow.Author.Needs.{needs}
-use Rattle.replay.proofs.moved.Statement.{statement}
-use Rattle.replay.proofs.moved.Tie as tie
+use Rattle.console.proofs.moved.Statement.{statement}
+use Rattle.console.proofs.moved.Tie as tie
 
 above : (z : ℤ) → SFits w64 z → leZ z (pos 0) ≡ false → T (nonNeg z) × Fits w64 (natAbs z)
 above (pos n) f e = let h : n < 2 ^ 63 = f .sfits in (tt, record { fits = omega arith })
