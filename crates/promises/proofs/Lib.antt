@@ -1,0 +1,13 @@
+pub mod Back
+pub mod Plain
+pub mod Trims
+pub mod Reals
+pub mod Changes
+pub mod Declarations
+pub mod WrittenRead
+pub mod Runs
+pub mod Ids
+pub mod Numbers
+pub mod Rewriting
+pub mod Pinned
+pub mod Example

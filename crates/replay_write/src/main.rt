@@ -1,0 +1,53 @@
+// Reads cases on standard input (docs/ORACLE.md) and prints what each call of their scripts answers and writes. Its stored input and
+// output are the oracle's recorded sample, made by oracle/record from the crate's own answers.
+mod answer;
+mod made;
+mod script;
+
+use replay::Case;
+ghost use mathlib.Core.Path.{_≡_};
+ghost use lib.ListN.{length};
+
+fn main() {
+    let mut input = buffer();
+    let mut out = buffer();
+    let mut one = lent();
+    let mut two = lent();
+    let used = answer_all(&mut input, &mut one, &mut two, &mut out);
+    replay::write_front(&out, used);
+}
+
+// Zeros: room for the longest case, and for answers until they are written.
+fn buffer() -> [u8; 131072]
+    ensures { λ r. ⌜ 131072 ≡ length r ⌝ }
+{
+    [0; 131072]
+}
+
+// Room for the longest output that a call is lent.
+fn lent() -> [u8; 4096]
+    ensures { λ r. ⌜ 4096 ≡ length r ⌝ }
+{
+    [0; 4096]
+}
+
+// Answers how much of the output is still to be written: the rest was written whenever it was half full.
+fn answer_all(input: &mut [u8], one: &mut [u8], two: &mut [u8], out: &mut [u8]) -> usize {
+    let mut have: usize = 0;
+    let mut at: usize = 0;
+    let mut used: usize = 0;
+    let mut number: u64 = 0;
+    // Every case takes two bytes at least, so this many are enough.
+    while number < 4294967295 {
+        let fed = replay::next_case(input, at, have);
+        have = fed.have;
+        let case = fed.case;
+        let Case::At(t) = case else {
+            return used;
+        };
+        used = answer::answer(text::part(input, t), number, one, two, out, used);
+        at = replay::behind(input, t);
+        number += 1;
+    }
+    used
+}

@@ -1,0 +1,6 @@
+-- `Storing` has words put one after the other, `Spelling` short texts by value, `Checks` what 25 and 22 ask of texts, `Outcomes` the ways
+-- to answer, one law for each.
+pub mod Storing
+pub mod Spelling
+pub mod Checks
+pub mod Outcomes

@@ -1,0 +1,48 @@
+-- `write::Writer::change_string` meets its contract. Assumes nothing.
+use mathlib.Core.Path.{refl, sym, _∙_}
+use mathlib.Core.Bool.{and-false}
+use borrow.Author.Needs.{needs}
+use Rattle.idcode.specs.Id.{idText}
+use Rattle.write.specs.Layout.{layout, stateAfter, isName, isId}
+use Rattle.write.specs.Call.{call, outside}
+use Rattle.write.proofs.Checks.{id-none, id-some}
+use Rattle.write.proofs.Outcomes.{bad-place, not-writable, laid-out, judged-no, judged-yes}
+use Rattle.write.proofs.Spelling.{row-text}
+use Rattle.write.proofs.Writer.change_string.Statement.{statement}
+use Rattle.write.proofs.Writer.change_string.Tie as tie
+
+returns : tie.Need-returns
+unfolding call
+returns c = bad-place _ _ _ _ _ (sym (c .before .outside .ensures) ∙ c .if1 .taken)
+
+returns-2 : tie.Need-returns-2
+unfolding call
+returns-2 c = not-writable _ _ _ _ _ (sym (c .before .before .before .outside .ensures) ∙ c .before .before .if1 .left) (rw (id-none (c .before .before .before .before .before .before .args .id) (c .if2 .taken)))
+
+returns-3 : tie.Need-returns-3
+unfolding call
+returns-3 c =
+    let ok = judged-no isName (c .before .before .part .ensures) (c .before .is-name .ensures) (c .if3 .taken) in
+    not-writable _ _ _ _ _ (sym (c .before .before .before .before .before .before .outside .ensures) ∙ c .before .before .before .before .before .if1 .left) (rw (ok, and-false (isId (c .before .before .before .before .before .before .before .before .before .args .id))))
+
+returns-4 : tie.Need-returns-4
+unfolding call stateAfter layout
+returns-4 c =
+    let x = c .before .before .before .before .before .before .before .before .before .before .before .before .before .before .before .before .before .before .before .before .before .args in
+    let code = row-text (idText (x .id .0)) (c .before .before .before .before .before .before .before .before .before .before .before .spell .ensures) (c .before .before .before .before .before .before .front .ensures) in
+    let ok = judged-yes isName (c .before .before .before .before .before .before .before .before .before .before .before .before .before .before .part .ensures) (c .before .before .before .before .before .before .before .before .before .before .before .before .before .is-name .ensures) (c .before .before .before .before .before .before .before .before .before .before .before .before .if3 .left) in
+    laid-out _ _ _ _ _ (sym (c .before .before .before .before .before .before .before .before .before .before .before .before .before .before .before .before .before .before .outside .ensures) ∙ c .before .before .before .before .before .before .before .before .before .before .before .before .before .before .before .before .before .if1 .left) (rw (id-some (x .id) (c .before .before .before .before .before .before .before .before .before .before .before .before .before .before .before .if2 .left), ok))
+    (c .laid .ensures) (c .before .before .before .lay .ensures) refl (rw (code, c .before .before .before .before .before .before .before .before .before .before .before .before .before .before .part .ensures))
+
+pub change-string-spec : {M : Type 1} → statement M
+change-string-spec =
+    tie.close
+    (tie.spec
+    (λ c κs. search needs)
+    returns
+    returns-2
+    (λ c κs. search needs) (λ c κs. search needs)
+    returns-3
+    (λ c κs. search needs) (λ c. search needs) (λ c. search needs) (λ c. search needs) (λ c κs. search needs)
+    (λ c. search needs) (λ c κs. search needs) (λ c κs. search needs) (λ c. search needs)
+    returns-4)

@@ -1,0 +1,13 @@
+-- `write::Writer::comment` meets its contract. Assumes nothing.
+use borrow.Author.Needs.{needs}
+use Rattle.write.specs.Layout.{layout, stateAfter}
+use Rattle.write.specs.Call.{call}
+use Rattle.write.proofs.Writer.comment.Statement.{statement}
+use Rattle.write.proofs.Writer.comment.Tie as tie
+
+returns : tie.Need-returns
+unfolding call stateAfter layout
+returns c = c .before .before .remark .ensures
+
+pub comment-spec : {M : Type 1} → statement M
+comment-spec = tie.close (tie.spec (λ c. search needs) (λ c κs. search needs) (λ c. search needs) returns)

@@ -1,0 +1,24 @@
+-- `write::check::is_name` meets its contract. Assumes nothing.
+use denote.Ref.{now}
+use mathlib.Core.Path.{sym, _∙_}
+use borrow.Author.Needs.{needs}
+use borrow.Author.Tests.{not-true, not-false}
+use Rattle.write.proofs.Checks.{name-none, name-some}
+use Rattle.write.proofs.check.is_name.Statement.{statement}
+use Rattle.write.proofs.check.is_name.Tie as tie
+
+returns : tie.Need-returns
+returns c = sym (name-none (now (c .before .before .args .s)) (c .if1 .taken))
+
+returns-2 : tie.Need-returns-2
+returns-2 c =
+    let none = sym (c .before .no-blank .ensures) ∙ not-true _ (c .if2 .taken) in
+    rw (name-some (now (c .before .before .before .before .args .s)) (c .before .before .if1 .left), none)
+
+returns-3 : tie.Need-returns-3
+returns-3 c =
+    let all = sym (c .before .before .no-blank .ensures) ∙ not-false _ (c .before .if2 .left) in
+    rw (name-some (now (c .before .before .before .before .before .args .s)) (c .before .before .before .if1 .left), all) (c .valid .ensures)
+
+pub is-name-spec : {M : Type 1} → statement M
+is-name-spec = tie.close (tie.spec returns (λ c κs. search needs) returns-2 (λ c κs. search needs) returns-3)

@@ -1,0 +1,16 @@
+-- `write::check::outside` meets its contract. Assumes nothing.
+use mathlib.Core.Bool.{not}
+use mathlib.Core.Path.{sym, ap, _∙_}
+use borrow.Author.Needs.{needs}
+use Rattle.write.proofs.Checks.{outside-long, outside-else}
+use Rattle.write.proofs.check.outside.Statement.{statement}
+use Rattle.write.proofs.check.outside.Tie as tie
+
+returns : tie.Need-returns
+returns c = sym (outside-long _ _ (c .if1 .taken))
+
+returns-2 : tie.Need-returns-2
+returns-2 c = ap not (c .within .ensures) ∙ sym (outside-else _ _ (c .before .if1 .left))
+
+pub outside-spec : {M : Type 1} → statement M
+outside-spec = tie.close (tie.spec returns (λ c κs. search needs) returns-2)

@@ -1,0 +1,4 @@
+pub mod Put
+pub mod Layout
+pub mod Call
+pub mod Run

@@ -1,0 +1,86 @@
+// What refusals 25 and 22 ask of texts.
+use text::Found;
+use text::Text;
+ghost use mathlib.Core.Path.{_≡_};
+ghost use Rattle.text.specs.Bytes.{noBlank};
+ghost use Rattle.value.specs.Values.{lower};
+ghost use mathlib.Core.List.{map};
+ghost use Rattle.write.specs.Call.{outside as isOutside};
+ghost use Rattle.write.specs.Layout.{isName as isNameText, isRemark as isRemarkText, isShortReal, isVector as isVectorText};
+
+pub const LIMIT: usize = 4294967295;
+
+// Whether the input is over the limit, or the text outside it.
+pub fn outside(src: &[u8], t: Text) -> bool
+    ensures { λ r. ⌜ r ≡ isOutside (now (src .entry)) t ⌝ }
+{
+    if LIMIT < src.len() {
+        return true;
+    }
+    !text::within(src, t)
+}
+
+fn no_blank(s: &[u8]) -> bool
+    ensures { λ r. ⌜ r ≡ noBlank (now (s .entry)) ⌝ }
+{
+    let mut i = 0;
+    while i < s.len() {
+        if text::whitespace_byte(s[i]) {
+            return false;
+        }
+        i += 1;
+    }
+    true
+}
+
+// A string, a reference, a scope's name.
+pub fn is_name(s: &[u8]) -> bool
+    ensures { λ r. ⌜ r ≡ isNameText (now (s .entry)) ⌝ }
+{
+    if s.len() == 0 {
+        return false;
+    }
+    if !no_blank(s) {
+        return false;
+    }
+    text::utf8::valid(s)
+}
+
+// The text of a comment, a date, a version.
+pub fn is_remark(s: &[u8]) -> bool
+    ensures { λ r. ⌜ r ≡ isRemarkText (now (s .entry)) ⌝ }
+{
+    if !text::utf8::valid(s) {
+        return false;
+    }
+    let t = text::white_space::trim(s);
+    if t.start != 0 {
+        return false;
+    }
+    if t.len != s.len() {
+        return false;
+    }
+    match text::find_end(s) {
+        Found::At(_) => false,
+        Found::Nothing => true,
+    }
+}
+
+pub fn is_real(s: &[u8]) -> bool
+    ensures { λ r. ⌜ r ≡ isShortReal (now (s .entry)) ⌝ }
+{
+    if 32 < s.len() {
+        return false;
+    }
+    number::is_real(s)
+}
+
+// A vector that may be written has at least one value.
+pub fn is_vector(s: &[u8]) -> bool
+    ensures { λ r. ⌜ r ≡ isVectorText (map lower (now (s .entry))) ⌝ }
+{
+    if s.len() < 1 {
+        return false;
+    }
+    value::vector::is_vector(s)
+}
