@@ -9,11 +9,11 @@ use vcd::{Command, Header, Parser, ScopeItem, TimescaleUnit};
 type Row = (Option<usize>, Command);
 
 #[derive(Debug, Default, PartialEq)]
-struct Table {
-    date: Option<String>,
-    version: Option<String>,
-    timescale: Option<(u32, TimescaleUnit)>,
-    rows: Vec<Row>,
+pub struct Table {
+    pub date: Option<String>,
+    pub version: Option<String>,
+    pub timescale: Option<(u32, TimescaleUnit)>,
+    pub rows: Vec<Row>,
 }
 
 /// A table being filled, the rows of its open scopes, and how many rows it may have.
@@ -78,14 +78,20 @@ pub fn split(case: &[u8]) -> (usize, &[u8]) {
     (rows.expect("the number of rows lent"), &case[end + 1..])
 }
 
+/// Reads a header into so many rows: the table, and the refusal's number, or none for a whole header.
+pub fn read(reader: &mut Reader, lent: usize) -> (Table, Option<u8>) {
+    // page: at most 4,096 rows, or fewer as lent.
+    let mut filling = Filling { table: Table::default(), open: Vec::new(), lent: lent.min(4096) };
+    let refused = filling.fill(reader);
+    agree(reader, &filling.table, refused);
+    (filling.table, refused)
+}
+
 pub fn answer(out: &mut String, case: &[u8]) {
     let (lent, input) = split(case);
     let mut reader = Reader::new(input);
-    // page: at most 4,096 rows, or fewer as lent.
-    let mut filling = Filling { table: Table::default(), open: Vec::new(), lent: lent.min(4096) };
-    let refused = filling.fill(&mut reader);
-    agree(&mut reader, &filling.table, refused);
-    print(out, &filling.table);
+    let (table, refused) = read(&mut reader, lent);
+    print(out, &table);
     match refused {
         Some(number) => {
             let _ = write!(out, "refused {number}");

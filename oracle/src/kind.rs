@@ -1,5 +1,5 @@
-//! The three kinds of cases, and the answer to a case of each.
-use crate::{header, read, write};
+//! The kinds of cases, and the answer to a case of each.
+use crate::{header, list, read, reformat, write};
 use std::fmt::Write;
 
 #[derive(Clone, Copy, PartialEq)]
@@ -7,6 +7,8 @@ pub enum Kind {
     Read,
     Header,
     Write,
+    List,
+    Reformat,
 }
 
 impl Kind {
@@ -15,6 +17,8 @@ impl Kind {
             "read" => Some(Kind::Read),
             "header" => Some(Kind::Header),
             "write" => Some(Kind::Write),
+            "list" => Some(Kind::List),
+            "reformat" => Some(Kind::Reformat),
             _ => None,
         }
     }
@@ -27,6 +31,8 @@ impl Kind {
             Kind::Read => read::answer(&mut out, case),
             Kind::Header => header::answer(&mut out, case),
             Kind::Write => write::answer(&mut out, case),
+            Kind::List => list::answer(&mut out, case),
+            Kind::Reformat => reformat::answer(&mut out, case),
         }
         out
     }

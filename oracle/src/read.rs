@@ -29,7 +29,7 @@ pub fn answer(out: &mut String, input: &[u8]) {
 }
 
 /// A real's text, found again in the bytes of its command.
-fn real_text<'a>(input: &'a [u8], from: usize, command: &Command) -> &'a [u8] {
+pub fn real_text<'a>(input: &'a [u8], from: usize, command: &Command) -> &'a [u8] {
     let Command::ChangeReal(_, value) = command else {
         return b"";
     };

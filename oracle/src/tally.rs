@@ -9,6 +9,14 @@ const COMMANDS: &[&str] = &[
 
 /// What a line of an answer counts as, if as anything.
 pub fn name(kind: Kind, line: &str) -> Option<String> {
+    match kind {
+        Kind::List => listed(line),
+        Kind::Reformat => written(line),
+        _ => answered(kind, line),
+    }
+}
+
+fn answered(kind: Kind, line: &str) -> Option<String> {
     let mut words = line.split(' ');
     let (first, second, third) = (words.next()?, words.next()?, words.next());
     match (kind, first, second) {
@@ -19,6 +27,51 @@ pub fn name(kind: Kind, line: &str) -> Option<String> {
         (_, "refused", _) => Some(format!("refused {second}")),
         _ => Some(first.to_string()),
     }
+}
+
+/// The line with which the programs end, if it is that.
+fn ended(words: &[&str]) -> Option<String> {
+    match words {
+        ["refused", number, "at", _] => Some(format!("refused {number}")),
+        ["input", "too", "long"] => Some(TOO_LONG.to_string()),
+        _ => None,
+    }
+}
+
+fn listed(line: &str) -> Option<String> {
+    let words: Vec<&str> = line.split(' ').collect();
+    let own = match words[..] {
+        ["case", _] => None,
+        [_, "full"] => Some("full"),
+        [_, "-", _, _] => Some("change without a time"),
+        [_, _, _, _] => Some("change"),
+        _ => None,
+    };
+    ended(&words).or(own.map(str::to_string))
+}
+
+/// Lines inside a text, and its `$end`, count as nothing unless they look like a command.
+fn written(line: &str) -> Option<String> {
+    let words: Vec<&str> = line.split(' ').collect();
+    let own = match line.as_bytes().first()? {
+        b'$' => COMMANDS.iter().find(|command| **command == &words[0][1..]).copied().filter(|c| *c != "end"),
+        b'#' => Some("time"),
+        b'0' | b'1' | b'x' | b'z' => Some("scalar"),
+        b'b' => Some("vector"),
+        b'r' if words.len() == 2 => Some("real"),
+        b's' => Some("string"),
+        _ => None,
+    };
+    let begin = words[0].starts_with("$dump").then_some("begin");
+    ended(&words).or(own.or(begin).map(str::to_string))
+}
+
+const TOO_LONG: &str = "input too long";
+
+/// What only a long dump shows, so that the programs' samples have little of it.
+pub fn is_rare(kind: Kind, name: &str) -> bool {
+    let long = [TOO_LONG, "refused 19", "refused 20", "refused 21"];
+    matches!(kind, Kind::List | Kind::Reformat) && long.contains(&name)
 }
 
 /// All that can occur in answers of a kind. 16 needs an id text converted directly, 8 a header.
@@ -33,6 +86,18 @@ pub fn names(kind: Kind) -> Vec<String> {
             .chain(read.iter().chain(&[8, 19, 20]).map(refused))
             .collect(),
         Kind::Write => NAMES.iter().flat_map(|call| outcomes(call)).collect(),
+        Kind::List => ["change", "change without a time", "full", TOO_LONG]
+            .iter()
+            .map(|c| c.to_string())
+            .chain(read.iter().chain(&[8, 19, 20]).map(refused))
+            .collect(),
+        Kind::Reformat => COMMANDS
+            .iter()
+            .filter(|c| !["end", "done"].contains(c))
+            .chain(&[TOO_LONG])
+            .map(|c| c.to_string())
+            .chain(read.iter().chain(&[8, 19, 20, 21, 22]).map(refused))
+            .collect(),
     }
 }
 

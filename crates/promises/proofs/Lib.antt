@@ -10,4 +10,6 @@ pub mod Ids
 pub mod Numbers
 pub mod Rewriting
 pub mod Pinned
+pub mod Points
+pub mod Listing
 pub mod Example

@@ -1,22 +1,31 @@
 -- What a run writes is the layouts of the accepted commands, joined, and each of them was writable in its turn; so it reads back. Assumes nothing.
-use Prim.Native.Nat.{ℕ, _-_}
+use Prim.Native.Nat.{ℕ, _+_, _-_, _^_, _<_}
 use mathlib.Core.Path.{_≡_, refl, sym, ap, ap₂, subst, _∙_}
-use mathlib.Core.Bool.{Bool, true, false, cond, _&&_}
+use mathlib.Core.Bool.{Bool, true, false, cond, not, _&&_}
 use mathlib.Core.List.{List, [], _∷_, _++_, append-assoc, append-nil}
-use lib.Dec.{leb}
+use native.Mathlib.Omega.{arith}
+use borrow.Author.Tests.{eqb-false}
+use lib.Dec.{leb, eqb}
 use lib.ListN.{length, drop}
 use lib.Seq.{take-append-seam}
 use Rattle.text.specs.Texts.{putAnswer, putBytes}
-use Rattle.text.proofs.Lists.{by-test, both}
-use Rattle.command.specs.Meaning.{Meaning, meaning}
+use Rattle.text.proofs.Lists.{by-test, both, not-swap}
+use Rattle.command.specs.Meaning.{Meaning, remark, timescale, scopeDef, upscope, varDef, enddefinitions, timestamp, change, begin, end, meaning}
+use Rattle.command.specs.declared.Command.{Command}
 use Rattle.parser.specs.Next.{fresh as start}
 use Rattle.parser.specs.All.{readAll}
-use Rattle.write.specs.Call.{Outcome, outcome, misplaced, call}
-use Rattle.write.specs.Layout.{layout, writable, stateAfter, fresh}
+use Rattle.header.specs.Rows.{rowsOf}
+use Rattle.header.specs.declared.KeptTimescale.{KeptTimescale}
+use Rattle.write.specs.Call.{Outcome, outcome, misplaced, call, newVar}
+use Rattle.write.specs.Layout.{layout, isId, isName, raised, writable, stateAfter, fresh}
 use Rattle.write.specs.Run.{layouts, statesAfter, Sized, AllSized, Accepted, taken, Effect, gives, effect}
 use Rattle.write.specs.declared.Writer.{Writer}
-use Rattle.promises.specs.Runs.{Call, single, listed, all, effectOf, runs}
-use Rattle.promises.specs.Stated.{RunAccepted, RoundTrip, RewrittenFile}
+use Rattle.write_header.specs.Meanings.{headerMeanings}
+use Rattle.write_header.specs.Written.{Outcome as HeaderOutcome, headerCall}
+use Rattle.write_header.specs.declared.HeaderWritten.{HeaderWritten}
+use Rattle.write_header.proofs.Takes.{Takes, AreWords, KeptSized, refused, accepted, header-takes, header-all, sized-header}
+use Rattle.promises.specs.Runs.{SizedTable, SizedScale, Call, single, adding, header, headerGives, effectOf, runs}
+use Rattle.promises.specs.Stated.{RunAccepted, HeaderWhole, RoundTrip, RewrittenFile}
 use Rattle.promises.proofs.WrittenRead.{written-read}
 
 layouts-append : (ms ns : List Meaning) → layouts (ms ++ ns) ≡ layouts ms ++ layouts ns
@@ -53,23 +62,82 @@ taken-each w room (m ∷ ms) z =
     let ih = taken-each (stateAfter w m) (room - length (layout m)) ms (z .1) in
     by-test (writable w m && leb (length (layout m)) room) (λ q. rw q (both _ _ q .0, z .0, ih)) (λ q. rw q tt)
 
-all-gave : (off : Bool) (w : Writer) (room : ℕ) (ms : List Meaning) → AllSized ms → Gave w (all w (cond off [] (taken w room ms)))
-all-gave true w room ms z = record { bytes = refl; each = tt; state = refl }
-all-gave false w room ms z = record { bytes = refl; each = taken-each w room ms z; state = refl }
+-- a header: what it took
+header-gives : (w : Writer) (o : List ℕ) (l : List Meaning) (r : HeaderWritten) (left : List ℕ) → Takes w o l (record { answer = r; left = left }) → Accepted w l
+    → Gave w (headerGives l r left)
+header-gives w o l (HeaderWritten.Bytes n v) left x a = record { bytes = rw (x .leaves, x .counts) (take-append-seam (layouts l) _); each = a; state = x .state }
+header-gives w o l (HeaderWritten.Refused e n v) left x a = record { bytes = rw (x .leaves, x .counts) (take-append-seam (layouts l) _); each = a; state = x .state }
 
-gave : (w : Writer) (c : Call) → Gave w (effectOf w c)
-unfolding effectOf effect call
-gave w (single k src out z) = let m : Meaning = meaning src k in one-gave (misplaced src k) (writable w m) w m out refl z
-gave w (listed off ms out z) = all-gave off w (length out) ms z
+taken-or : (off : Bool) (w : Writer) (room : ℕ) (ms : List Meaning) → AllSized ms → Accepted w (cond off [] (taken w room ms))
+taken-or true w room ms z = tt
+taken-or false w room ms z = taken-each w room ms z
+
+-- the numbers' types as the header's laws have them
+words-are : (table : List ℕ) → SizedTable table → AreWords table
+words-are [] z = tt
+words-are (w ∷ table) z = (z .0, words-are table (z .1))
+
+scale-is : (t : KeptTimescale) → SizedScale t → KeptSized t
+scale-is KeptTimescale.None z = tt
+scale-is (KeptTimescale.Is n u) z = z
+
+single-gave : (w : Writer) (src : List ℕ) (k : Command) (out : List ℕ) → Sized (meaning src k) → Gave w (effect w src k out)
+unfolding effect call
+single-gave w src k out z = let m : Meaning = meaning src k in one-gave (misplaced src k) (writable w m) w m out refl z
+
+-- the writer's next id is of its type, so a variable may have it
+gave : (w : Writer) (c : Call) → w .id .0 < 2 ^ 64 → Gave w (effectOf w c)
+unfolding effectOf
+gave w (single k src out z) h = single-gave w src k out z
+gave w (adding k width t x src out z y) h = single-gave w src (newVar w k width t x) out (z, h, y)
+gave w (header src k table n out z y) h =
+    let x : HeaderOutcome = headerCall w src k table n out in
+    let ms : List Meaning = headerMeanings src k (rowsOf table n) in
+    header-gives w out (accepted w src k table n out) (x .answer) (x .left) (header-takes w src k table n out) (taken-or (refused src k table n) w (length out) ms (sized-header src k table n (words-are table z) (scale-is (k .timescale) y)))
+
+given : (ms : List Meaning) (r : HeaderWritten) (o : List ℕ) → headerGives ms r o .accepted ≡ ms
+given ms (HeaderWritten.Bytes n v) o = refl
+given ms (HeaderWritten.Refused e n v) o = refl
+
+pub header-whole : HeaderWhole
+unfolding effectOf
+header-whole w v src h table n m out z y e =
+    let x : HeaderOutcome = headerCall w src h table n out in
+    given _ (x .answer) (x .left) ∙ header-all w src h table n out m v e
+
+-- ---- the next id stays of its type: only an id below 2^64 - 1 is written and raises it
+id-after : (w : Writer) (m : Meaning) → writable w m ≡ true → Sized m → w .id .0 < 2 ^ 64 → stateAfter w m .id .0 < 2 ^ 64
+unfolding stateAfter raised isId
+id-after w (remark k t) q z h = h
+id-after w (timescale n u) q z h = h
+id-after w (scopeDef k t) q z h = h
+id-after w upscope q z h = h
+id-after w (varDef k n i t x) q z h =
+    let a = both (isId i && isName t) (not (eqb (w .depth) 0)) q in
+    let b = both (isId i) (isName t) (a .0) in
+    let c = eqb-false (i .0) (2 ^ 64 - 1) (not-swap _ (b .0)) in
+    let up : i .0 + 1 < 2 ^ 64 = omega (arith, z .1) in
+    by-test (leb (w .id .0) (i .0)) (λ e. rw e up) (λ e. rw e h)
+id-after w enddefinitions q z h = h
+id-after w (timestamp n) q z h = h
+id-after w (change i v) q z h = h
+id-after w (begin k) q z h = h
+id-after w (end k) q z h = h
+
+ids-after : (w : Writer) (ms : List Meaning) → Accepted w ms → w .id .0 < 2 ^ 64 → statesAfter w ms .id .0 < 2 ^ 64
+unfolding statesAfter
+ids-after w [] a h = h
+ids-after w (m ∷ ms) a h = ids-after (stateAfter w m) ms (a .2) (id-after w m (a .0) (a .1) h)
 
 pub run-accepted : RunAccepted
 unfolding runs layouts
-run-accepted w [] = record { bytes = refl; each = tt }
-run-accepted w (c ∷ cs) =
-    let x = gave w c in
+run-accepted w [] h = record { bytes = refl; each = tt }
+run-accepted w (c ∷ cs) h =
+    let x = gave w c h in
     let e : Effect = effectOf w c in
     let l : List Meaning = runs (e .state) cs .accepted in
-    let y = run-accepted (e .state) cs in
+    let next : e .state .id .0 < 2 ^ 64 = rw (x .state) (ids-after w (e .accepted) (x .each) h) in
+    let y = run-accepted (e .state) cs next in
     record {
       bytes = ap₂ _++_ (x .bytes) (y .bytes) ∙ sym (layouts-append (e .accepted) l);
       each = accepted-append w (e .accepted) l (x .each) (subst (λ (v : Writer). Accepted v l) (x .state) (y .each));
@@ -77,7 +145,7 @@ run-accepted w (c ∷ cs) =
 
 pub round-trip : RoundTrip
 round-trip cs h =
-    let j = run-accepted fresh cs in
+    let j = run-accepted fresh cs (omega arith) in
     let l : List Meaning = runs fresh cs .accepted in
     ap (λ (f : List ℕ). readAll f start) (j .bytes) ∙ written-read l (j .each) (rw (j .bytes) at h)
 

@@ -1,28 +1,43 @@
 -- What is promised: the statements of this crate in one place. Their proofs are in proofs/, under the same names in lower case.
-use Prim.Native.Nat.{ℕ, _+_, _-_, _^_, _≤_, _<_}
+use Prim.Native.Nat.{ℕ, _+_, _-_, _/_, _^_, _≤_, _<_}
 use mathlib.Core.Path.{_≡_}
-use mathlib.Core.Bool.{true}
-use mathlib.Core.List.{List, [], _++_}
-use lib.ListN.{length, take}
+use mathlib.Core.Bool.{true, false}
+use mathlib.Core.List.{List, [], _∷_, _++_}
+use lib.ListN.{length, take, replicate}
 use Rattle.text.specs.Bytes.{bytes, allBlank}
+use Rattle.text.specs.declared.Text.{Text}
+use Rattle.value.specs.declared.Value.{Value}
 use Rattle.idcode.specs.Id.{parseId, idText, idSum}
 use Rattle.idcode.specs.declared.IdCode.{IdCode}
 use Rattle.idcode.specs.declared.Parsed.{Parsed}
-use Rattle.command.specs.Meaning.{Meaning, remark, timescale, scopeDef, upscope, varDef, enddefinitions, timestamp, change, begin, end, meaning, remarkName, openAfter}
+use Rattle.scope.specs.declared.ReferenceIndex.{ReferenceIndex}
+use Rattle.scope.specs.declared.VarType.{VarType}
+use Rattle.command.specs.Meaning.{Meaning, remark, timescale, scopeDef, upscope, varDef, enddefinitions, timestamp, change, scalar, begin, end, meaning, remarkName, openAfter}
 use Rattle.command.specs.declared.Command.{Command}
+use Rattle.command.specs.declared.Open.{Open}
+use Rattle.command.specs.declared.Refusal.{Refusal}
 use Rattle.token.specs.Read.{Valid, after, rest}
 use Rattle.token.specs.declared.Cursor.{Cursor}
 use Rattle.parser.specs.Plan.{withOpen}
 use Rattle.parser.specs.Next.{nextFrom, fresh as start}
 use Rattle.parser.specs.All.{said, says, readAll, exactly}
 use Rattle.parser.specs.declared.Next.{Next}
-use Rattle.write.specs.Call.{Outcome, call, Does, Adds}
+use Rattle.header.specs.Rows.{rowsOf}
+use Rattle.header.specs.declared.Header.{Header}
+use Rattle.write.specs.Call.{Outcome, refusal, outside, call, Does, newVar, Adds}
 use Rattle.write.specs.Layout.{layout, writable, fresh}
 use Rattle.write.specs.Run.{layouts, Sized, Accepted}
 use Rattle.write.specs.declared.Added.{Added}
 use Rattle.write.specs.declared.Writer.{Writer}
 use Rattle.write.specs.declared.Written.{Written}
-use Rattle.promises.specs.Runs.{Call, Ran, runs}
+use Rattle.write_header.specs.Meanings.{headerMeanings}
+use Rattle.write_header.specs.Written.{Outcome as HeaderOutcome, headerCall, Does as HeaderDoes}
+use Rattle.write_header.specs.declared.HeaderWritten.{HeaderWritten}
+use Rattle.listing.specs.Listing.{change as changeTold}
+use Rattle.listing.specs.declared.Ended.{Ended}
+use Rattle.listing.specs.declared.rows.ChangeKind.{ChangeKind}
+use Rattle.promises.specs.Runs.{SizedTable, SizedScale, Call, header, effectOf, Ran, runs}
+use Rattle.promises.specs.Listed.{Step, Steps, Stops, tells, count, Holds}
 
 -- a layout in two parts: what reading its command leaves to the next read, the newline after a comment's `$end`; and before it what reading takes
 abbrev pub due : Meaning → List ℕ
@@ -69,8 +84,16 @@ pub record Joined (w : Writer) (x : Ran) : Type 0 where
   pub bytes : x .file ≡ layouts (x .accepted)
   pub each : Accepted w (x .accepted)
 
+-- of every state whose next id is of its type, as a new writer's is
 abbrev pub RunAccepted : Type 0
-RunAccepted = (w : Writer) (cs : List Call) → Joined w (runs w cs)
+RunAccepted = (w : Writer) (cs : List Call) → w .id .0 < 2 ^ 64 → Joined w (runs w cs)
+
+-- A header that is written whole: its commands are accepted, all of them.
+abbrev pub HeaderWhole : Type 0
+HeaderWhole =
+    (w v : Writer) (src : List ℕ) (h : Header) (table : List ℕ) (n m : ℕ) (out : List ℕ) (z : SizedTable table) (y : SizedScale (h .timescale))
+    → headerCall w src h table n out .answer ≡ HeaderWritten.Bytes m v
+    → effectOf w (header src h table n out z y) .accepted ≡ headerMeanings src h (rowsOf table n)
 
 -- Any calls of a new writer, refused ones among them: the file reads back as exactly the accepted commands, then the end.
 abbrev pub RoundTrip : Type 0
@@ -107,9 +130,65 @@ pub record IdsPaired : Type 0 where
   pub sum : (s : List ℕ) (i : IdCode) → parseId s ≡ Parsed.Code i → idSum s ≡ i .0 + 1
   pub below : (s : List ℕ) (i : IdCode) → parseId s ≡ Parsed.Code i → i .0 < 2 ^ 64 - 1
 
--- A call's statement pins what it does: two outcomes of which it holds have equal answers and leave equal outputs.
+-- Listing: from any cursor reading stops, behind some commands, at the end or by a refusal.
+abbrev pub ReadingStops : Type 0
+ReadingStops = (s : List ℕ) (c : Cursor) → (xs : List Step) × (d : Cursor) × (e : Ended) × (f : Cursor) × Steps s c xs d × Stops s d e f
+
+-- With enough room a listing holds every change of the code up to there, once, in file order, with the last timestamp read since the
+-- start, or none; and it ends as reading does.
+abbrev pub ListingComplete : Type 0
+ListingComplete =
+    (s : List ℕ) (c : Cursor) (i : IdCode) (xs : List Step) (d : Cursor) (e : Ended) (f : Cursor) → Steps s c xs d → Stops s d e f
+    → (table : List ℕ) → count s i xs ≤ length table / 6 → Holds s c i table xs e f
+
+-- the first change that finds no row: as many changes stand before it as there are rows
+pub record Beyond (s : List ℕ) (i : IdCode) (room : ℕ) (xs ys : List Step) (x : Step) : Type 0 where
+  pub later : List Step
+  pub kind : ChangeKind
+  pub value : Text
+  pub splits : xs ≡ ys ++ (x ∷ later)
+  pub is : tells s x ≡ changeTold i kind value
+  pub before : count s i ys ≡ room
+
+-- With too little it holds those before that change, and ends by 24 with the cursor as it stood before it.
+abbrev pub ListingFull : Type 0
+ListingFull =
+    (s : List ℕ) (c : Cursor) (i : IdCode) (xs : List Step) (d : Cursor) → Steps s c xs d → (table : List ℕ) → length table / 6 < count s i xs
+    → (ys : List Step) × (x : Step) × Beyond s i (length table / 6) xs ys x
+    × Holds s c i table ys (Ended.Refused Refusal.ListFull (x .from .line)) (x .from)
+
+-- A statement pins what its call does: two answers of which it holds are equal. Of calls that answer alone;
+abbrev pub Pinned : Type 1
+Pinned = (A : Type 0) (r q x : A) → r ≡ x → q ≡ x → r ≡ q
+
+-- of calls that answer and leave a lent table or output: reading a header, listing, widening, putting a text and their like;
+abbrev pub PinnedTwo : Type 1
+PinnedTwo = (A B : Type 0) (r q x : A) (o p y : B) → (r ≡ x) × (o ≡ y) → (q ≡ x) × (p ≡ y) → (r ≡ q) × (o ≡ p)
+
+-- of calls that write a command, a variable with the next id, a header.
 abbrev pub DoesPinned : Type 0
 DoesPinned = (r q : Written) (o p : List ℕ) (x : Outcome) → Does r o x → Does q p x → (r ≡ q) × (o ≡ p)
 
 abbrev pub AddsPinned : Type 0
 AddsPinned = (i : IdCode) (r q : Added) (o p : List ℕ) (x : Outcome) → Adds i r o x → Adds i q p x → (r ≡ q) × (o ≡ p)
+
+abbrev pub HeaderPinned : Type 0
+HeaderPinned = (r q : HeaderWritten) (o p : List ℕ) (x : HeaderOutcome) → HeaderDoes r o x → HeaderDoes q p x → (r ≡ q) × (o ≡ p)
+
+-- Points on the writer's side of its borders. Inside a scope of a new writer:
+abbrev pub inside : IdCode → Writer
+inside i = record { depth = 1; id = i; sim = Open.None }
+
+abbrev pub far : IdCode
+far = record { 0 = 14_478_900_916_529_561_927 }
+
+pub record WriterPoints : Type 0 where
+  -- a variable with id 2^64 - 2 is accepted, and the next id is 2^64 - 1;
+  pub last : call (inside (record { 0 = 0 })) (bytes "a") (Command.VarDef VarType.Wire 1 (record { 0 = 2 ^ 64 - 2 }) (record { start = 0; len = 1 }) ReferenceIndex.None) (replicate 40 0) .answer
+      ≡ Written.Bytes 30 (inside (record { 0 = 2 ^ 64 - 1 }))
+  -- automatic numbering then gives 22, whatever the variable is, and changes no byte
+  pub spent : (w : Writer) (k : VarType) (n : ℕ) (t : Text) (x : ReferenceIndex) (src out : List ℕ) → w .id .0 ≡ 2 ^ 64 - 1 → outside src t ≡ false
+      → call w src (newVar w k n t x) out ≡ refusal Refusal.NotWritable out
+  -- the id `n999999999` is rewritten the same, and so is a line with it
+  pub same : (parseId (bytes "n999999999") ≡ Parsed.Code far) × (idText (far .0) ≡ bytes "n999999999")
+  pub line : (readAll (bytes "1n999999999\n") start ≡ exactly (change far (scalar Value.V1) ∷ [])) × (layout (change far (scalar Value.V1)) ≡ bytes "1n999999999\n")

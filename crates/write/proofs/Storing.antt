@@ -34,7 +34,7 @@ pub stored-none : (o : List ℕ) (at : ℕ) → o ≡ stored o at []
 unfolding stored
 stored-none o at = sym (simp (add-zero, take-append-drop))
 
-pub stored-more : (o w : List ℕ) (at i : ℕ) → at + i < length o → i < length w
+stored-more : (o w : List ℕ) (at i : ℕ) → at + i < length o → i < length w
     → set (stored o at (take i w)) (at + i) (getD w i 0) ≡ stored o at (take (i + 1) w)
 unfolding stored
 stored-more o w at i ho hw =
@@ -48,6 +48,11 @@ stored-more o w at i ho hw =
       ← append-assoc (take at o) (take (suc i) w) (drop (at + suc i) o),
     )
     (paste-suc o at w i 0 ho hw)
+
+-- the byte v goes behind the first i bytes
+pub stored-step : (o w : List ℕ) (at i : ℕ) {out : List ℕ} {n v : ℕ} → out ≡ stored o at (take i w) → n ≡ at + i → v ≡ getD w i 0
+    → at + i < length o → i < length w → set out n v ≡ stored o at (take (i + 1) w)
+stored-step o w at i e p q h g = rw (e, p, q) (stored-more o w at i h g)
 
 -- ---- a run of words, each from where the last one ended: what it leaves, and where it ends
 abbrev pub puts : List ℕ → ℕ → List (List ℕ) → List ℕ

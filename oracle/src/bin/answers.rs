@@ -1,9 +1,9 @@
-//! `answers [read|header|write]`: reads cases from standard input and prints their canonical answers.
+//! `answers [KIND]`: reads cases from standard input and prints their canonical answers.
 use oracle::{args, stream};
 use std::io::{self, BufWriter, Write};
 
 fn main() -> io::Result<()> {
-    let kind = args::kind(1, "answers [read|header|write]");
+    let kind = args::kind(1, "answers [KIND]");
     let mut input = io::stdin().lock();
     let mut out = BufWriter::new(io::stdout().lock());
     let mut n = 0;

@@ -5,7 +5,7 @@ use std::io::{self, BufRead};
 use std::process::exit;
 
 fn main() -> io::Result<()> {
-    let usage = "counts read|header|write LEAST";
+    let usage = "counts KIND LEAST";
     let kind = args::kind(1, usage);
     let least = args::number(2, usage);
     let mut counts: HashMap<String, u64> = HashMap::new();
@@ -18,7 +18,7 @@ fn main() -> io::Result<()> {
     for name in tally::names(kind) {
         let count = counts.remove(&name).unwrap_or(0);
         println!("{count} {name}");
-        few |= count < least;
+        few |= count < least && !tally::is_rare(kind, &name);
     }
     // What is left has no place in the list above.
     for (name, count) in &counts {

@@ -10,6 +10,11 @@ const POOL: usize = 30_000;
 const WANTED: usize = 1_500;
 /// The first are all taken: they hold each simulator's dump whole.
 const FIRST: usize = 100;
+/// A sample of whole dumps is no longer than what the port's program takes at once: of those that are not fixed it has
+/// only short ones, and fewer for a mark.
+const MOST: usize = 1 << 17;
+const SHORT_DUMP: usize = 180;
+const OFTEN_DUMP: usize = 3;
 /// How often each mark is wanted.
 const OFTEN: usize = 8;
 /// A case longer than this is taken only for a mark that no other has,
@@ -18,11 +23,16 @@ const LONG: usize = 3_000;
 const SHORT: usize = 250;
 
 fn main() -> io::Result<()> {
-    let usage = "sample SEED read|header|write";
-    let maker = Maker::new(args::kind(2, usage), args::number(1, usage));
+    let usage = "sample SEED KIND";
+    let kind = args::kind(2, usage);
+    let maker = Maker::new(kind, args::number(1, usage));
     let pool: Vec<Vec<u8>> = (0..POOL).map(|n| maker.case(n)).collect();
+    let chosen = match kind {
+        Kind::List | Kind::Reformat => fitting(kind, &pool, maker.recorded()),
+        _ => chosen(kind, &pool),
+    };
     let mut out = BufWriter::new(io::stdout().lock());
-    for n in chosen(args::kind(2, usage), &pool) {
+    for n in chosen {
         stream::put(&mut out, &pool[n])?;
     }
     if args::kind(2, usage) == Kind::Read {
@@ -44,6 +54,39 @@ fn points() -> [(Vec<u8>, &'static str); 4] {
         (of(b'$', b'q', 16), "refused 7"),
         (of(b'$', b'q', 17), "refused 4"),
     ]
+}
+
+/// Of whole dumps the fixed ones, then short ones: those with a mark that is still rare, others spread over the pool.
+fn fitting(kind: Kind, pool: &[Vec<u8>], fixed: usize) -> Vec<usize> {
+    let mut seen: HashMap<String, usize> = HashMap::new();
+    let mut taken = Vec::new();
+    let mut spare = Vec::new();
+    let mut room = MOST;
+    for (n, case) in pool.iter().enumerate().filter(|(n, case)| *n < fixed || case.len() <= SHORT_DUMP) {
+        let marks = marks(kind, case);
+        if n < fixed || marks.iter().any(|mark| seen.get(mark).is_none_or(|times| *times < OFTEN_DUMP)) {
+            marks.into_iter().for_each(|mark| *seen.entry(mark).or_default() += 1);
+            room -= framed(case);
+            taken.push(n);
+        } else {
+            spare.push(n);
+        }
+    }
+    let all: usize = spare.iter().map(|n| framed(&pool[*n])).sum();
+    let more = room * spare.len() / all;
+    for n in (0..more).map(|k| spare[k * spare.len() / more]) {
+        if framed(&pool[n]) <= room {
+            room -= framed(&pool[n]);
+            taken.push(n);
+        }
+    }
+    taken.sort();
+    taken
+}
+
+/// The bytes of a case in a stream, at most.
+fn framed(case: &[u8]) -> usize {
+    case.len() + 7
 }
 
 /// The first cases, those with a mark that is still rare, and then others spread over the pool.
@@ -76,11 +119,16 @@ fn marks(kind: Kind, case: &[u8]) -> Vec<String> {
     let mut marks = Vec::new();
     let mut place = 0;
     let mut rows = 0;
+    let alone = answer.lines().count() == 2;
     for line in answer.lines() {
-        marks.extend(tally::name(kind, line));
+        let name = tally::name(kind, line);
+        if alone && matches!(kind, Kind::List | Kind::Reformat) {
+            marks.extend(name.as_ref().map(|name| format!("{name}, alone")));
+        }
+        marks.extend(name);
         let words: Vec<&str> = line.split(' ').collect();
         match (kind, words[0]) {
-            (Kind::Write, _) => (),
+            (Kind::Write | Kind::List | Kind::Reformat, _) => (),
             (_, "scope" | "var" | "begin" | "end") => marks.push(words[..2].join(" ")),
             (_, "timescale" | "scalar") if words.len() > 2 => marks.push(format!("{} {}", words[0], words[2])),
             (Kind::Read, "refused") if words[1] != "3" => {

@@ -72,7 +72,7 @@ pub fn var_types() -> Vec<String> {
 }
 
 /// Mostly one space, so that the odd place is what the case is about.
-fn blank(rng: &mut Rng) -> &'static str {
+pub fn blank(rng: &mut Rng) -> &'static str {
     if rng.one_in(3) {
         rng.pick(&["\n", "\t", "\r\n", "  ", " \n ", "\r", "\n\n"])
     } else {

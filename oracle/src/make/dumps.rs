@@ -24,6 +24,12 @@ pub fn from_start(turn: usize, rng: &mut Rng) -> Vec<u8> {
     damaged(start, rng.draw() as usize)
 }
 
+/// A damaged dump, mostly without its end.
+pub fn cut(rng: &mut Rng) -> Vec<u8> {
+    let dump = rng.pick(DUMPS);
+    damaged(&dump[..dump.len().min(500 + rng.below(3000))], rng.draw() as usize)
+}
+
 /// Each dump whole at first; then mostly a piece of one, damaged or not.
 pub fn some(turn: usize, rng: &mut Rng) -> Vec<u8> {
     if let Some(dump) = DUMPS.get(turn) {

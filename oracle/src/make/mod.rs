@@ -2,10 +2,12 @@
 mod command;
 mod damage;
 mod dumps;
+mod fixed;
 mod headers;
 mod odd;
 mod scripts;
 mod walk;
+mod whole;
 
 use crate::kind::Kind;
 use crate::rng::Rng;
@@ -20,15 +22,18 @@ pub struct Maker {
     seed: u64,
     odds: Vec<Odd>,
     texts: Texts,
+    fixed: Vec<Vec<u8>>,
+    recorded: usize,
 }
 
 /// The order of the sorts of cases, over and over: w exhaustive, o an odd token, d damaged copies,
-/// s simulators' dumps, t header trees, c random calls, p parts of a source.
+/// s simulators' dumps, t header trees or whole dumps, c random calls, p parts of a source.
 fn pattern(kind: Kind) -> &'static [u8] {
     match kind {
         Kind::Read => b"wowdwowswdwowowdwswo",
         Kind::Header => b"wtotdtwsotdtwtosdtwt",
         Kind::Write => b"wcccpcwcccpcwccccpcc",
+        Kind::List | Kind::Reformat => b"stwdtotwtdstwtotwdtw",
     }
 }
 
@@ -57,7 +62,16 @@ fn all_odds() -> Vec<Odd> {
 
 impl Maker {
     pub fn new(kind: Kind, seed: u64) -> Maker {
-        Maker { kind, seed, odds: all_odds(), texts: Texts::new() }
+        let (fixed, recorded) = match kind {
+            Kind::List | Kind::Reformat => fixed::all(kind),
+            _ => (Vec::new(), 0),
+        };
+        Maker { kind, seed, odds: all_odds(), texts: Texts::new(), fixed, recorded }
+    }
+
+    /// How many of the fixed cases, which come before those that the seed chooses, the recorded sample has.
+    pub fn recorded(&self) -> usize {
+        self.recorded
     }
 
     /// Turn `n` through `total` things, from a place that the seed chooses, near ones far apart in time.
@@ -69,12 +83,17 @@ impl Maker {
     }
 
     pub fn case(&self, n: usize) -> Vec<u8> {
+        if let Some(case) = self.fixed.get(n) {
+            return case.clone();
+        }
+        let n = n - self.fixed.len();
         let mut rng = Rng::new(self.seed, 1 + n as u64);
         let (sort, turn) = turn(pattern(self.kind), n);
         match self.kind {
             Kind::Read => self.read(sort, turn, &mut rng),
             Kind::Header => headers::with_rows(&self.header(sort, turn, &mut rng), &mut rng),
             Kind::Write => self.write(sort, turn, &mut rng),
+            Kind::List | Kind::Reformat => self.whole(sort, turn, &mut rng),
         }
     }
 
@@ -106,6 +125,20 @@ impl Maker {
             b'w' => walk::nth(walk::WRITE, self.walk(walk::size(walk::WRITE), turn)),
             b'p' => scripts::nth_part(self.walk(scripts::parts(), turn)),
             _ => scripts::some(&self.texts, rng),
+        }
+    }
+
+    fn whole(&self, sort: u8, turn: usize, rng: &mut Rng) -> Vec<u8> {
+        match sort {
+            b'w' => walk::nth(walk::WHOLE, self.walk(walk::size(walk::WHOLE), turn)),
+            b't' => whole::some(rng),
+            b'o' => {
+                let (command, place, token) = self.odd(turn);
+                whole::with_odd(command, (*place, token), rng)
+            }
+            b'd' => whole::damaged_some(rng),
+            _ if rng.one_in(20) => whole::long(rng),
+            _ => dumps::cut(rng),
         }
     }
 

@@ -160,6 +160,35 @@ pub const HEADER: &[Walk] = &[
     },
 ];
 
+/// Dumps of few commands in every order: changes, variables and scopes, commands behind the header.
+pub const WHOLE: &[Walk] = &[
+    Walk {
+        before: b"$scope module m $end $var wire 1 ! a $end $var reg 3 \" b $end $var reg 2 ! c $end $upscope $end\n\
+            $enddefinitions $end\n",
+        symbols: &[b"#5 ", b"1!\n", b"X\" ", b"b1Z !\n", b"r.5 \" ", b"sq !\n", b"$dumpon ", b"$end\n"],
+        most: 5,
+        after: b"",
+    },
+    Walk {
+        before: b"",
+        symbols: &[
+            b"$scope module a $end ", b"$upscope $end\n", b"$var wire 1 ! v $end ", b"$var reg 2 \" w $end\n",
+            b"$comment c $end", b"$enddefinitions $end\n", b"1! ",
+        ],
+        most: 5,
+        after: b"$enddefinitions $end\n#1 0! b1 \"\n",
+    },
+    Walk {
+        before: b"$enddefinitions $end ",
+        symbols: &[
+            b"$scope fork f $end\n", b"$upscope $end ", b"$var wire 1 ! v $end\n", b"$enddefinitions $end\n",
+            b"$dumpall ", b"$dumpvars\n", b"$end ", b"$date d$end\n",
+        ],
+        most: 5,
+        after: b"#1\n",
+    },
+];
+
 /// Scripts of few calls in every order, over the source `abc`.
 pub const WRITE: &[Walk] = &[
     Walk {

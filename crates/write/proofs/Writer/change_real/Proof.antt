@@ -4,7 +4,7 @@ use mathlib.Core.Bool.{and-false}
 use borrow.Author.Needs.{needs}
 use Rattle.idcode.specs.Id.{idText}
 use Rattle.write.specs.Layout.{layout, stateAfter, isShortReal, isId}
-use Rattle.write.specs.Call.{call, outside}
+use Rattle.write.specs.Call.{call}
 use Rattle.write.proofs.Checks.{id-none, id-some}
 use Rattle.write.proofs.Outcomes.{bad-place, not-writable, laid-out, judged-no, judged-yes}
 use Rattle.write.proofs.Spelling.{row-text}

@@ -1,7 +1,6 @@
 -- `write::Writer::command` meets its contract: each arm is told which command it has, and hands over what its callee ensures. Assumes nothing.
 use mathlib.Core.Path.{refl}
 use borrow.Author.Needs.{needs}
-use Rattle.command.specs.Meaning.{timescale, upscope, enddefinitions, timestamp}
 use Rattle.write.proofs.Outcomes.{long-call, no-text}
 use Rattle.write.proofs.Writer.command.Statement.{statement}
 use Rattle.write.proofs.Writer.command.Tie as tie

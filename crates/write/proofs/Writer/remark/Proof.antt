@@ -2,7 +2,6 @@
 use mathlib.Core.Path.{refl, sym, _∙_}
 use borrow.Author.Needs.{needs}
 use Rattle.write.specs.Layout.{isRemark}
-use Rattle.write.specs.Call.{outside}
 use Rattle.write.proofs.Outcomes.{bad-place, not-writable, laid-out, judged-no, judged-yes}
 use Rattle.write.proofs.Writer.remark.Statement.{statement}
 use Rattle.write.proofs.Writer.remark.Tie as tie

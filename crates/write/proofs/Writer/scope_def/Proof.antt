@@ -8,7 +8,7 @@ use borrow.Author.Tests.{lt-leb, le-leb}
 use Rattle.text.specs.Bytes.{bytes}
 use Rattle.text.specs.Texts.{part}
 use Rattle.write.specs.Layout.{layout, stateAfter, isName}
-use Rattle.write.specs.Call.{call, outside}
+use Rattle.write.specs.Call.{call}
 use Rattle.write.proofs.Outcomes.{bad-place, not-writable, laid-out, judged-no, judged-yes}
 use Rattle.write.proofs.Spelling.{row-text}
 use Rattle.write.proofs.Writer.scope_def.Statement.{statement}

@@ -9,7 +9,7 @@ use borrow.Author.Tests.{eq-eqb, ne-eqb}
 use Rattle.command.specs.Meaning.{varDef}
 use Rattle.text.specs.Texts.{part}
 use Rattle.write.specs.Layout.{layout, stateAfter, isName, isId}
-use Rattle.write.specs.Call.{call, outside}
+use Rattle.write.specs.Call.{call}
 use Rattle.write.proofs.Checks.{id-none, id-some}
 use Rattle.write.proofs.Outcomes.{bad-place, not-writable, laid-out, judged-no, judged-yes}
 use Rattle.write.proofs.Writer.var_def.Statement.{statement}

@@ -10,7 +10,7 @@ use Rattle.write.proofs.Storing.{fits-yes, fits-no, lay-none, lay-done}
 use Rattle.write.proofs.put.lay_var.Statement.{statement}
 use Rattle.write.proofs.put.lay_var.Tie as tie
 
--- the bytes that are always there, and the words
+-- how many bytes the five words have, and how they stand behind `$var`
 abbrev sum : List ℕ → List ℕ → List ℕ → List ℕ → List ℕ → ℕ
 sum k n i t x = length k + length n + length i + length t + length x
 

@@ -6,7 +6,7 @@ use borrow.Author.Needs.{needs}
 use lib.ListN.{length, take, length-set}
 use lib.Seq.{take-all}
 use Rattle.write.specs.Put.{stored}
-use Rattle.write.proofs.Storing.{stored-none, stored-more}
+use Rattle.write.proofs.Storing.{stored-none, stored-step}
 use Rattle.write.proofs.put.put.Statement.{statement}
 use Rattle.write.proofs.put.put.Tie as tie
 
@@ -26,7 +26,7 @@ loop-again c =
     let l = c .before .before .loop in (
       omega arith,
       omega arith,
-      cc (stored-more (a .out .now) (a .word .now) (a .at) (l .i) (omega arith) (omega arith)),
+      stored-step (a .out .now) (a .word .now) (a .at) (l .i) (l .inv .2) (l .inv .1) refl (omega arith) (omega arith),
       simp length-set (l .inv .3),
     )
 

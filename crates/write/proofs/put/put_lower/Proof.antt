@@ -1,6 +1,6 @@
 -- `write::put::put_lower` meets its contract: the first i bytes of the word in lower case are stored from `at` on. Assumes nothing.
 use Prim.Native.Nat.{_+_, _-_, _≤_}
-use mathlib.Core.Path.{_≡_, refl, ap, _∙_}
+use mathlib.Core.Path.{_≡_, refl, sym, ap, _∙_}
 use mathlib.Core.List.{map}
 use native.Mathlib.Omega.{arith}
 use borrow.Author.Needs.{needs}
@@ -9,7 +9,7 @@ use lib.Seq.{take-all}
 use Rattle.value.specs.Values.{lower}
 use Rattle.value.proofs.Vectors.{lower-at}
 use Rattle.write.specs.Put.{stored}
-use Rattle.write.proofs.Storing.{stored-none, stored-more}
+use Rattle.write.proofs.Storing.{stored-none, stored-step}
 use Rattle.write.proofs.put.put_lower.Statement.{statement}
 use Rattle.write.proofs.put.put_lower.Tie as tie
 
@@ -30,7 +30,7 @@ loop-again c =
     let l′ : length (map lower (a .word .now)) ≡ length (a .word .now) = length-map (a .word .now) lower in (
       omega arith,
       omega arith,
-      cc (stored-more (a .out .now) (map lower (a .word .now)) (a .at) (l .i) (omega arith) (omega arith), lower-at (a .word .now) (l .i)),
+      stored-step (a .out .now) (map lower (a .word .now)) (a .at) (l .i) (l .inv .2) (l .inv .1) (c .lowered .ensures ∙ sym (lower-at (a .word .now) (l .i))) (omega arith) (omega arith),
       simp length-set (l .inv .3),
     )
 

@@ -1,0 +1,274 @@
+-- The rows of a table that are still to be written, and what the first of them does.
+--     here-scope, here-var, here-comment    row i stands in the innermost open scope: its command, and then the rows behind it
+--     pop                                   row i stands further out, or there is none: the innermost scope is closed
+--     top-end                               no scope is open, and no row is left
+use Prim.Native.Nat.{ℕ, zero, suc, _+_, _-_, _/_, _^_, _≤_, _<_}
+use mathlib.Core.Path.{_≡_, refl, sym, ap, subst, _∙_}
+use mathlib.Core.Bool.{Bool, true, false, cond, _&&_, false≢true}
+use mathlib.Core.List.{List, [], _∷_}
+use native.Mathlib.Omega.{arith}
+use native.Mathlib.Nat.{sub-self, sub-zero}
+use native.Mathlib.Decide.{decLt}
+use borrow.Author.Tests.{eq-eqb, ne-eqb, ltb-true, eqb-true, leb-true}
+use lib.Dec.{eqb, ltb, leb}
+use lib.ListN.{length}
+use Rattle.command.specs.Meaning.{comment, remark, scopeDef, upscope, enddefinitions}
+use Rattle.header.specs.Good.{isParent, openTo, isGoodFrom, isGoodTable}
+use Rattle.header.specs.Header.{inner}
+use Rattle.header.specs.Rows.{top, parentWord, parentOf, isIndex, indexOf, allZero, textAt, variable, rowOf, rowAt, rowsFrom, rowsOf}
+use Rattle.header.specs.Types.{scopeTypeOf}
+use Rattle.header.specs.declared.rows.Parent.{Parent}
+use Rattle.header.specs.declared.rows.Row.{Row}
+use Rattle.scope.specs.declared.ScopeType.{ScopeType}
+use Rattle.scope.specs.declared.Var.{Var}
+use Rattle.text.specs.Texts.{part}
+use Rattle.text.specs.declared.Text.{Text}
+use Rattle.text.proofs.Lists.{by-test, both}
+use Rattle.write_header.specs.Chain.{parentIn, parentAt}
+use Rattle.write_header.specs.Levels.{rest}
+use Rattle.write_header.specs.Meanings.{upscopes, varMeaning, rowMeanings}
+
+-- ---- a row's parent is that of its word
+pub word-of : (w : ℕ) → parentWord (parentOf w) ≡ w
+unfolding parentOf
+word-of w = by-test (eqb w top) (λ e. rw e (sym (eqb-true w top e))) (λ e. rw e)
+
+unfoldable Named : Row → Type 0
+Named (Row.Scope p k t) = parentOf (parentWord p) ≡ p
+Named (Row.Var p v) = parentOf (parentWord p) ≡ p
+Named (Row.Comment p t) = parentOf (parentWord p) ≡ p
+Named Row.None = Unit {0}
+
+module _ (w : ℕ) where
+  twice : parentOf (parentWord (parentOf w)) ≡ parentOf w
+  twice = ap parentOf (word-of w)
+
+  named-scope : (k : ScopeType) (t : Text) → Named (Row.Scope (parentOf w) k t)
+  unfolding Named
+  named-scope k t = twice
+
+  named-var : (v : Var) → Named (Row.Var (parentOf w) v)
+  unfolding Named
+  named-var v = twice
+
+  named-comment : (t : Text) → Named (Row.Comment (parentOf w) t)
+  unfolding Named
+  named-comment t = twice
+
+named-none : Named Row.None
+unfolding Named
+named-none = tt
+
+-- ten words are no row, or a row of one of three kinds; what is asked of the words stands in front
+pub row-cases : (P : Row → Type 0) (k p t w c s l f a b : ℕ)
+    → P (Row.Scope (parentOf p) (scopeTypeOf t) (textAt s l))
+    → (w < 2 ^ 32 → isIndex f a b ≡ true → P (Row.Var (parentOf p) (variable t w c (textAt s l) (indexOf f a b))))
+    → P (Row.Comment (parentOf p) (textAt s l)) → P Row.None → P (rowOf k p t w c s l f a b)
+unfolding rowOf
+row-cases P k p t w c s l f a b x y z none =
+    by-test (eqb k 1 && leb t 4 && allZero (w ∷ c ∷ f ∷ a ∷ b ∷ [])) (λ e. rw e x)
+    (λ e.
+    by-test (eqb k 2 && leb t 17 && ltb w (2 ^ 32) && isIndex f a b)
+    (λ q.
+    let i = both (eqb k 2 && leb t 17 && ltb w (2 ^ 32)) (isIndex f a b) q in
+    let n = both (eqb k 2 && leb t 17) (ltb w (2 ^ 32)) (i .0) in
+    rw (e, q) (y (ltb-true w (2 ^ 32) (n .1)) (i .1)))
+    (λ q. by-test (eqb k 3 && allZero (t ∷ w ∷ c ∷ f ∷ a ∷ b ∷ [])) (λ r. rw (e, q, r) z) (λ r. rw (e, q, r) none)))
+
+named : (table : List ℕ) (i : ℕ) → Named (rowAt table i)
+unfolding rowAt
+named table i =
+    by-test (ltb i (length table / 10))
+    (λ e.
+    rw e
+    (row-cases Named _ _ _ _ _ _ _ _ _ _ (named-scope _ _ _) (λ _ _. named-var _ _) (named-comment _ _) named-none))
+    (λ e. rw e named-none)
+
+module _ (table : List ℕ) (i : ℕ) where
+  pub scope-parent : {p : Parent} {k : ScopeType} {t : Text} → rowAt table i ≡ Row.Scope p k t → parentOf (parentAt table i) ≡ p
+  unfolding parentAt Named
+  scope-parent e = rw e (subst Named e (named table i))
+
+  pub var-parent : {p : Parent} {v : Var} → rowAt table i ≡ Row.Var p v → parentOf (parentAt table i) ≡ p
+  unfolding parentAt Named
+  var-parent e = rw e (subst Named e (named table i))
+
+  pub comment-parent : {p : Parent} {t : Text} → rowAt table i ≡ Row.Comment p t → parentOf (parentAt table i) ≡ p
+  unfolding parentAt Named
+  comment-parent e = rw e (subst Named e (named table i))
+
+-- ---- the rows from one on
+pub rest-cons : (table : List ℕ) (n i : ℕ) → i < n → rest table n i ≡ rowAt table i ∷ rest table n (i + 1)
+unfolding rowsFrom
+rest-cons table n i h = let e : n - i ≡ suc (n - (i + 1)) = omega arith in rw e
+
+pub rest-nil : (table : List ℕ) (n : ℕ) → rest table n n ≡ []
+unfolding rowsFrom
+rest-nil table n = rw (sub-self n)
+
+pub rest-all : (table : List ℕ) (n : ℕ) → rest table n 0 ≡ rowsOf table n
+rest-all table n = rw (sub-zero n)
+
+pub length-rows : (table : List ℕ) (i k : ℕ) → length (rowsFrom table i k) ≡ k
+unfolding rowsFrom
+length-rows table i zero = refl
+length-rows table i (suc k) = ap suc (length-rows table (i + 1) k)
+
+-- ---- the scopes that stay open
+open-inner : (st : List ℕ) → openTo (inner st) st ≡ st
+unfolding openTo
+open-inner [] = refl
+open-inner (n ∷ st) = rw (eq-eqb n n refl)
+
+pub open-other : (p : Parent) (n : ℕ) (st : List ℕ) → (parentWord p ≡ n → ⊥) → openTo p (n ∷ st) ≡ openTo p st
+unfolding openTo
+open-other Parent.Top n st h = refl
+open-other (Parent.Of q) n st h = rw (ne-eqb (q .0) n h)
+
+parent-other : (p : Parent) (n : ℕ) (st : List ℕ) → (parentWord p ≡ n → ⊥) → isParent p (n ∷ st) ≡ isParent p st
+unfolding isParent
+parent-other Parent.Top n st h = refl
+parent-other (Parent.Of q) n st h = rw (ne-eqb (q .0) n h)
+
+open-cond : (t : Bool) (a b : List ℕ) (k : ℕ) → length a ≤ k → length b ≤ k → length (cond t a b) ≤ k
+open-cond true a b k h l = h
+open-cond false a b k h l = l
+
+open-length : (p : Parent) (st : List ℕ) → length (openTo p st) ≤ length st
+unfolding openTo
+open-length Parent.Top st = omega arith
+open-length (Parent.Of q) [] = omega arith
+open-length (Parent.Of q) (n ∷ st) =
+    let h = open-length (Parent.Of q) st in open-cond (eqb (q .0) n) (n ∷ st) (openTo (Parent.Of q) st) (suc (length st)) (omega arith) (omega arith)
+
+up-none : (st : List ℕ) → upscopes st st ≡ []
+up-none st = rw (sub-self (length st))
+
+up-one : (n : ℕ) (st : List ℕ) (p : Parent) → (parentWord p ≡ n → ⊥)
+    → upscopes (n ∷ st) (openTo p (n ∷ st)) ≡ upscope ∷ upscopes st (openTo p st)
+up-one n st p h =
+    let l = open-length p st in
+    let e : suc (length st) - length (openTo p st) ≡ suc (length st - length (openTo p st)) = omega arith in
+    rw (open-other p n st h, e)
+
+-- ---- a row whose parent is another than the innermost open scope
+good-out : (r : Row) (rs : List Row) (i n : ℕ) (st : List ℕ) → (parentIn r ≡ n → ⊥) → isGoodFrom i (n ∷ st) (r ∷ rs) ≡ isGoodFrom i st (r ∷ rs)
+unfolding isGoodFrom
+good-out (Row.Scope p k t) rs i n st h = rw (open-other p n st h, parent-other p n st h)
+good-out (Row.Var p v) rs i n st h = rw (open-other p n st h, parent-other p n st h)
+good-out (Row.Comment p t) rs i n st h = rw (open-other p n st h, parent-other p n st h)
+good-out Row.None rs i n st h = refl
+
+row-out : (s : List ℕ) (r : Row) (rs : List Row) (i n : ℕ) (st : List ℕ) → (parentIn r ≡ n → ⊥) → isGoodFrom i st (r ∷ rs) ≡ true
+    → rowMeanings s i (n ∷ st) (r ∷ rs) ≡ upscope ∷ rowMeanings s i st (r ∷ rs)
+unfolding rowMeanings isGoodFrom
+row-out s (Row.Scope p k t) rs i n st h g = rw (up-one n st p h, open-other p n st h)
+row-out s (Row.Var p v) rs i n st h g = rw (up-one n st p h, open-other p n st h)
+row-out s (Row.Comment p t) rs i n st h g = rw (up-one n st p h, open-other p n st h)
+row-out s Row.None rs i n st h g = absurd (false≢true g)
+
+good-end : (i : ℕ) (st : List ℕ) → isGoodFrom i st [] ≡ true
+unfolding isGoodFrom
+good-end i st = refl
+
+row-end : (s : List ℕ) (i n : ℕ) (st : List ℕ) → rowMeanings s i (n ∷ st) [] ≡ upscope ∷ rowMeanings s i st []
+unfolding rowMeanings
+row-end s i n st = rw (sub-zero (suc (length st)), sub-zero (length st))
+
+pub last-row : (table : List ℕ) (n i : ℕ) (st : List ℕ) → i ≤ n → n ≤ i → isGoodFrom i st (rest table n i) ≡ true
+last-row table n i st h k = let e : i ≡ n = omega arith in rw (e, rest-nil table n) (good-end n st)
+
+module _ (s table : List ℕ) (n i : ℕ) (st : List ℕ) where
+  pub pop : (m : ℕ) → i ≤ n → (i < n → parentAt table i ≡ m → ⊥) → isGoodFrom i (m ∷ st) (rest table n i) ≡ true
+      → (isGoodFrom i st (rest table n i) ≡ true)
+      × (rowMeanings s i (m ∷ st) (rest table n i) ≡ upscope ∷ rowMeanings s i st (rest table n i))
+  unfolding parentAt
+  pop m h out g = elim (decLt i n) [
+    | yes l ↦
+        let q = sym (good-out (rowAt table i) (rest table n (i + 1)) i m st (out l)) ∙ (rw (rest-cons table n i l) at g) in
+        rw (rest-cons table n i l) (q, row-out s (rowAt table i) (rest table n (i + 1)) i m st (out l) q)
+    | no l ↦ let e : i ≡ n = omega arith in rw (e, rest-nil table n) (good-end n st, row-end s n m st)
+  ]
+
+  -- ---- a row whose parent is the innermost open scope
+  module _ (l : i < n) (me : inner st ≡ parentOf (parentAt table i)) (g : isGoodFrom i st (rest table n i) ≡ true) where
+    same : {p : Parent} → parentOf (parentAt table i) ≡ p → openTo p st ≡ st
+    same e = ap (λ (q : Parent). openTo q st) (sym (me ∙ e)) ∙ open-inner st
+
+    -- what is good of a row r is good of row i
+    of-row : {r : Row} → rowAt table i ≡ r → isGoodFrom i st (r ∷ rest table n (i + 1)) ≡ true
+    of-row e = sym (rw (rest-cons table n i l, e)) ∙ g
+
+    pub here-scope : {p : Parent} {k : ScopeType} {t : Text} → rowAt table i ≡ Row.Scope p k t
+        → (length st < 64) × (isGoodFrom (i + 1) (i ∷ st) (rest table n (i + 1)) ≡ true)
+        × (rowMeanings s i st (rest table n i) ≡ scopeDef k (part s t) ∷ rowMeanings s (i + 1) (i ∷ st) (rest table n (i + 1)))
+    unfolding isGoodFrom rowMeanings
+    here-scope {p} e =
+        let o = same (scope-parent table i e) in
+        let a = both (isParent p st && ltb (length st) 64) (isGoodFrom (i + 1) (i ∷ st) (rest table n (i + 1))) (rw o at (of-row e)) in (
+          ltb-true (length st) 64 (both (isParent p st) (ltb (length st) 64) (a .0) .1),
+          a .1,
+          rw (rest-cons table n i l, e, o, up-none st),
+        )
+
+    pub here-var : {p : Parent} {v : Var} → rowAt table i ≡ Row.Var p v
+        → (isGoodFrom (i + 1) st (rest table n (i + 1)) ≡ true)
+        × (rowMeanings s i st (rest table n i) ≡ varMeaning s v ∷ rowMeanings s (i + 1) st (rest table n (i + 1)))
+    unfolding isGoodFrom rowMeanings
+    here-var {p} e =
+        let o = same (var-parent table i e) in (
+          both (isParent p st) (isGoodFrom (i + 1) st (rest table n (i + 1))) (rw o at (of-row e)) .1,
+          rw (rest-cons table n i l, e, o, up-none st),
+        )
+
+    pub here-comment : {p : Parent} {t : Text} → rowAt table i ≡ Row.Comment p t
+        → (isGoodFrom (i + 1) st (rest table n (i + 1)) ≡ true)
+        × (rowMeanings s i st (rest table n i) ≡ remark comment (part s t) ∷ rowMeanings s (i + 1) st (rest table n (i + 1)))
+    unfolding isGoodFrom rowMeanings
+    here-comment {p} e =
+        let o = same (comment-parent table i e) in (
+          both (isParent p st) (isGoodFrom (i + 1) st (rest table n (i + 1))) (rw o at (of-row e)) .1,
+          rw (rest-cons table n i l, e, o, up-none st),
+        )
+
+    pub here-none : rowAt table i ≡ Row.None → ⊥
+    unfolding isGoodFrom
+    here-none e = false≢true (of-row e)
+
+-- ---- the whole table, and its end
+top-parent : (p : Parent) → isParent p [] ≡ true → parentWord p ≡ top
+unfolding isParent
+top-parent Parent.Top e = refl
+top-parent (Parent.Of q) e = absurd (false≢true e)
+
+good-top : (r : Row) (rs : List Row) (i : ℕ) → isGoodFrom i [] (r ∷ rs) ≡ true → parentIn r ≡ top
+unfolding isGoodFrom
+good-top (Row.Scope p k t) rs i g =
+    let a = both (isParent p [] && ltb (length (openTo p [])) 64) (isGoodFrom (i + 1) (i ∷ openTo p []) rs) g in
+    top-parent p (both (isParent p []) (ltb (length (openTo p [])) 64) (a .0) .0)
+good-top (Row.Var p v) rs i g = top-parent p (both (isParent p []) (isGoodFrom (i + 1) (openTo p []) rs) g .0)
+good-top (Row.Comment p t) rs i g = top-parent p (both (isParent p []) (isGoodFrom (i + 1) (openTo p []) rs) g .0)
+good-top Row.None rs i g = refl
+
+row-last : (s : List ℕ) (i : ℕ) → rowMeanings s i [] [] ≡ enddefinitions ∷ []
+unfolding rowMeanings
+row-last s i = refl
+
+pub top-end : (s table : List ℕ) (n i : ℕ) → i ≤ n → (i < n → parentAt table i ≡ top → ⊥) → isGoodFrom i [] (rest table n i) ≡ true
+    → rowMeanings s i [] (rest table n i) ≡ enddefinitions ∷ []
+unfolding parentAt
+top-end s table n i h out g = elim (decLt i n) [
+  | yes l ↦ absurd (out l (good-top (rowAt table i) (rest table n (i + 1)) i (rw (rest-cons table n i l) at g)))
+  | no l ↦ let e : i ≡ n = omega arith in rw (e, rest-nil table n) (row-last s n)
+]
+
+pub good-parts : (table : List ℕ) (n : ℕ) → isGoodTable (rowsOf table n) ≡ true → (n ≤ 4096) × (isGoodFrom 0 [] (rest table n 0) ≡ true)
+unfolding isGoodTable
+good-parts table n e =
+    let a = both (leb (length (rowsOf table n)) 4096) (isGoodFrom 0 [] (rowsOf table n)) e in
+    (omega (arith, leb-true (length (rowsOf table n)) 4096 (a .0), length-rows table 0 n), rw (rest-all table n) (a .1))
+
+-- a scope's number is no parent at top
+pub scope-inner : (i : ℕ) (st : List ℕ) → i < top → inner (i ∷ st) ≡ parentOf i
+unfolding parentOf
+scope-inner i st h = rw (ne-eqb i top (λ e. omega (arith, e)))
