@@ -1,0 +1,4 @@
+mod Counting
+pub mod Local
+mod Filling
+pub mod Flat
