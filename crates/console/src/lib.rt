@@ -1,6 +1,5 @@
 // Standard input and output, and short texts put into a buffer: what the programs share. Nothing is promised of these but that they
 // are safe and end.
-use text::Spelled;
 use text::Text;
 ghost use Prim.Native.Nat.{_≤_};
 
@@ -76,32 +75,8 @@ pub fn put_byte(out: &mut [u8], at: usize, b: u8) -> usize {
     at + 1
 }
 
-// A short text.
-pub fn put_spelled(out: &mut [u8], at: usize, word: Spelled) -> usize {
+pub fn put_number(out: &mut [u8], at: usize, n: u64) -> usize {
+    let word = number::decimal(n);
     let bytes = word.bytes;
     put(out, at, front(&bytes, word.len))
-}
-
-pub fn put_number(out: &mut [u8], at: usize, n: u64) -> usize {
-    put_spelled(out, at, number::decimal(n))
-}
-
-// `refused NUMBER at LINE`.
-pub fn put_refused(out: &mut [u8], at: usize, number: u64, line: u64) -> usize {
-    let o = put(out, at, b"refused ");
-    let o = put_number(out, o, number);
-    let o = put(out, o, b" at ");
-    let o = put_number(out, o, line);
-    put_byte(out, o, b'\n')
-}
-
-// The place n bytes behind `at`, but not past the end.
-pub fn behind(out: &[u8], at: usize, n: usize) -> usize {
-    if out.len() <= at {
-        return out.len();
-    }
-    if out.len() - at <= n {
-        return out.len();
-    }
-    at + n
 }

@@ -46,7 +46,7 @@ unfolding parentOf
 parent-back Parent.Top f = refl
 parent-back (Parent.Of n) f = let apart : n .0 ≡ top → ⊥ = λ e. omega arith in rw (ne-eqb (n .0) top apart)
 
-scope-back : (k : ScopeType) → (leb (scopeNumber k) 4 ≡ true) × (scopeTypeOf (scopeNumber k) ≡ k)
+pub scope-back : (k : ScopeType) → (leb (scopeNumber k) 4 ≡ true) × (scopeTypeOf (scopeNumber k) ≡ k)
 unfolding scopeTypeOf
 scope-back ScopeType.Module = (refl, refl)
 scope-back ScopeType.Task = (refl, refl)
@@ -54,7 +54,7 @@ scope-back ScopeType.Function = (refl, refl)
 scope-back ScopeType.Begin = (refl, refl)
 scope-back ScopeType.Fork = (refl, refl)
 
-var-back : (k : VarType) → (leb (varNumber k) 17 ≡ true) × (varTypeOf (varNumber k) ≡ k)
+pub var-back : (k : VarType) → (leb (varNumber k) 17 ≡ true) × (varTypeOf (varNumber k) ≡ k)
 unfolding varTypeOf
 var-back VarType.Event = (refl, refl)
 var-back VarType.Integer = (refl, refl)
@@ -82,7 +82,7 @@ word-is (negsuc n) = refl
 word-back : (z : ℤ) → SFits w32 z → (ltb (wordOf z) (2 ^ 32) ≡ true) × (signedOf (wordOf z) ≡ z)
 word-back z f = rw (word-is z) (lt-ltb (ofZ w32 z) (2 ^ 32) (ofZ-fits w32 z f .fits), sym (signed-is (ofZ w32 z)) ∙ toZ-ofZ w32 z f)
 
-index-back : (x : ReferenceIndex) → Sized x
+pub index-back : (x : ReferenceIndex) → Sized x
     → (isIndex (getD (indexWords x) 0 0) (getD (indexWords x) 1 0) (getD (indexWords x) 2 0) ≡ true)
     × (indexOf (getD (indexWords x) 0 0) (getD (indexWords x) 1 0) (getD (indexWords x) 2 0) ≡ x)
 unfolding isIndex indexOf

@@ -1,9 +1,9 @@
-mod Words
+pub mod Words
 mod Duties
 mod Finding
 mod Levels
 mod Table
 pub mod Good
 pub mod Fits
-mod Ranged
+pub mod Ranged
 pub mod Kept

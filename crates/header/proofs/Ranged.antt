@@ -1,4 +1,4 @@
--- The numbers of a variable that is read are of 32 bits: by its plan, and so of every command of an input.
+-- The numbers of a command that is read are of their types: by its plan, and so of every command of an input.
 use Prim.Native.Nat.{ℕ, _^_, _<_}
 use mathlib.Core.Path.{_≡_, refl}
 use mathlib.Core.Bool.{Bool, true, false, cond}
@@ -41,16 +41,17 @@ use Rattle.parser.specs.declared.Kind.{Kind}
 use Rattle.parser.specs.declared.Next.{Next}
 use Rattle.parser.specs.declared.Word.{Word}
 
+-- its numbers are of their types: a time of 64 bits, the others of 32
 abbrev pub Ranged : Command → Type 0
 Ranged (Command.VarDef k w i t x) = (w < 2 ^ 32) × Sized x
 Ranged (Command.Comment t) = Unit {0}
 Ranged (Command.Date t) = Unit {0}
 Ranged (Command.Version t) = Unit {0}
-Ranged (Command.Timescale q u) = Unit {0}
+Ranged (Command.Timescale q u) = q < 2 ^ 32
 Ranged (Command.ScopeDef k t) = Unit {0}
 Ranged Command.Upscope = Unit {0}
 Ranged Command.Enddefinitions = Unit {0}
-Ranged (Command.Timestamp t) = Unit {0}
+Ranged (Command.Timestamp t) = t .0 < 2 ^ 64
 Ranged (Command.ChangeScalar i v) = Unit {0}
 Ranged (Command.ChangeVector i v) = Unit {0}
 Ranged (Command.ChangeReal i v) = Unit {0}
@@ -96,12 +97,12 @@ remark-ranged comment = texts (λ t w. judged w (answers (Command.Comment (trimm
 remark-ranged date = texts (λ t w. judged w (answers (Command.Date (trimmedIn t w)) tt))
 remark-ranged version = texts (λ t w. judged w (answers (Command.Version (trimmedIn t w)) tt))
 
-in-unit : (q : ℕ) (u : ParsedUnit) → AllRanged (inUnit q u)
-in-unit q (ParsedUnit.Is u) = closing-ranged (Command.Timescale q u) tt
-in-unit q ParsedUnit.Invalid = refuses _
+in-unit : (q : ℕ) → q < 2 ^ 32 → (u : ParsedUnit) → AllRanged (inUnit q u)
+in-unit q b (ParsedUnit.Is u) = closing-ranged (Command.Timescale q u) b
+in-unit q b ParsedUnit.Invalid = refuses _
 
 scaled-ranged : (q u : List ℕ) → AllRanged (scaled q u)
-scaled-ranged q u = counted (2 ^ 32) (parseBelow (2 ^ 32) q) (parse-below (2 ^ 32) q) (λ v b. in-unit v (parseUnit u))
+scaled-ranged q u = counted (2 ^ 32) (parseBelow (2 ^ 32) q) (parse-below (2 ^ 32) q) (λ v b. in-unit v b (parseUnit u))
 
 unit-ranged : (q u : List ℕ) → AllRanged (unitIn q u)
 unit-ranged q [] = tokens (most 8) (λ t w. judged w (scaled-ranged q w))
@@ -145,7 +146,7 @@ word-ranged Word.Unknown = refuses _
 
 kind-ranged : (k : Kind) → AllRanged (kindPlan k)
 kind-ranged Kind.Dollar = tokens (most 16) (λ t w. word-ranged (wordOf w))
-kind-ranged Kind.Hash = tokens (most 32) (λ t w. judged w (counted (2 ^ 64) (parseBelow (2 ^ 64) w) (parse-below (2 ^ 64) w) (λ v b. answers (Command.Timestamp (record { 0 = v })) tt)))
+kind-ranged Kind.Hash = tokens (most 32) (λ t w. judged w (counted (2 ^ 64) (parseBelow (2 ^ 64) w) (parse-below (2 ^ 64) w) (λ v b. answers (Command.Timestamp (record { 0 = v })) b)))
 kind-ranged (Kind.Scalar x) = an-id (λ i. answers (Command.ChangeScalar i x) tt)
 kind-ranged Kind.Vector = tokens values (λ t w. an-id (λ i. answers (Command.ChangeVector i t) tt))
 kind-ranged Kind.Real = tokens (most 32) (λ t w. judged w (tested (isReal w) (an-id (λ i. answers (Command.ChangeReal i t) tt)) (refuses _)))

@@ -108,7 +108,7 @@ unfolding put
 pasted m n w e = rw (take-length w, e) (append-assoc (take (10 * n) m) w (drop (10 * n + 10) m))
 
 -- ---- numbers past the last type's mean the last
-past : {A : Type 0} (l : List A) (n : ℕ) (d : A) → length l ≤ n → getD l n d ≡ d
+pub past : {A : Type 0} (l : List A) (n : ℕ) (d : A) → length l ≤ n → getD l n d ≡ d
 past [] n d h = refl
 past (x ∷ l) zero d h = absurd (omega arith)
 past (x ∷ l) (suc n) d h = past l n d (omega arith)

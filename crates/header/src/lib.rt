@@ -2,7 +2,7 @@
 // a lent table, in file order, with its parent; date, version and timescale are answered by value.
 mod find;
 mod rows;
-mod types;
+pub mod types;
 
 use command::Command;
 use command::Refusal;
@@ -27,8 +27,12 @@ pub use rows::Row;
 pub use rows::RowNumber;
 pub use rows::TOP;
 pub use rows::WORDS;
+pub use rows::first_word;
+pub use rows::index_form;
 pub use rows::parent_word;
 pub use rows::row_at;
+pub use rows::row_of;
+pub use rows::second_word;
 
 // The last of a command's texts, or none.
 pub enum KeptText {

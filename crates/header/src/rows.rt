@@ -59,7 +59,7 @@ pub fn row_at(rows: &[u64], i: usize) -> Row
 }
 
 // The row of these words: kind, parent, type, width, code, start, length, form and numbers of the index.
-fn row_of(k: u64, p: u64, t: u64, w: u64, c: u64, s: u64, l: u64, f: u64, a: u64, b: u64) -> Row
+pub fn row_of(k: u64, p: u64, t: u64, w: u64, c: u64, s: u64, l: u64, f: u64, a: u64, b: u64) -> Row
     ensures { λ r. ⌜ r ≡ rowOf k p t w c s l f a b ⌝ }
 {
     let text = Text {
@@ -275,7 +275,7 @@ pub fn put_var(rows: &mut [u64], n: usize, p: Parent, v: Var)
     put_row(rows, n, &w);
 }
 
-fn index_form(x: ReferenceIndex) -> u64
+pub fn index_form(x: ReferenceIndex) -> u64
     ensures { λ r. ⌜ r ≡ getD (indexWords x) 0 0 ⌝ }
 {
     match x {
@@ -285,7 +285,7 @@ fn index_form(x: ReferenceIndex) -> u64
     }
 }
 
-fn first_word(x: ReferenceIndex) -> u64
+pub fn first_word(x: ReferenceIndex) -> u64
     ensures { λ r. ⌜ r ≡ getD (indexWords x) 1 0 ⌝ }
 {
     match x {
@@ -295,7 +295,7 @@ fn first_word(x: ReferenceIndex) -> u64
     }
 }
 
-fn second_word(x: ReferenceIndex) -> u64
+pub fn second_word(x: ReferenceIndex) -> u64
     ensures { λ r. ⌜ r ≡ getD (indexWords x) 2 0 ⌝ }
 {
     match x {

@@ -1,7 +1,9 @@
 // Id codes: the short texts by which a dump names its variables (idcode.rs of vcd 0.7.0).
+use text::Placed;
 use text::Spelled;
 ghost use mathlib.Core.Path.{_≡_};
-ghost use Rattle.text.specs.Texts.{spelled};
+ghost use lib.ListN.{length};
+ghost use Rattle.text.specs.Texts.{spelled, putAnswer, putBytes};
 ghost use Rattle.idcode.specs.Id.{parseId, idText, following};
 
 pub enum InvalidIdCode {
@@ -90,5 +92,37 @@ impl IdCode {
             rest = rest / 94 - 1;
         }
         Spelled { bytes, len: n }
+    }
+
+    // How many bytes the text of a code has.
+    pub fn len(self) -> usize
+        ensures { λ r. ⌜ r ≡ length (idText (self .0)) ⌝ }
+    {
+        let mut rest = self.0;
+        let mut n: usize = 1;
+        while 94 <= rest {
+            rest = rest / 94 - 1;
+            n += 1;
+        }
+        n
+    }
+
+    // The text of a code, put at the start of `out`.
+    pub fn put(self, out: &mut [u8]) -> Placed
+        ensures { λ r. ⌜ (r ≡ putAnswer (idText (self .0)) (now (out .entry))) × (now (out .exit) ≡ putBytes (idText (self .0)) (now (out .entry))) ⌝ }
+    {
+        if out.len() < self.len() {
+            return Placed::NoRoom;
+        }
+        let mut rest = self.0;
+        let mut n: usize = 0;
+        loop {
+            out[n] = 33 + (rest % 94) as u8;
+            n += 1;
+            if rest < 94 {
+                return Placed::Count(n);
+            }
+            rest = rest / 94 - 1;
+        }
     }
 }

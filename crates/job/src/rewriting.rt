@@ -1,12 +1,10 @@
 // A dump read and written anew: its header, then its commands.
-use command::Command;
 use command::Refusal;
 use header::Ended;
 use header::Header;
-use parser::Next;
+use rewrite::Rewritten;
 use token::Cursor;
 use write::Writer;
-use write::Written;
 use write_header::HeaderWritten;
 ghost use Prim.Native.Nat.{_≤_};
 
@@ -25,98 +23,88 @@ pub fn reformat_dump(input: &[u8], out: &mut [u8]) {
     let kept = h.header;
     let c = h.cursor;
     match ended {
-        Ended::Refused(e, line) => finish(out, 0, e, line),
-        Ended::Whole => write_all(input, kept, &rows, h.count, c, out),
+        Ended::Refused(e, line) => write_refused(e, line, out),
+        Ended::Whole => write_lent(input, kept, &rows, h.count, c, out),
     }
 }
 
-// The header, then the commands from the cursor on.
-fn write_all(input: &[u8], h: Header, rows: &[u64], count: usize, c: Cursor, out: &mut [u8]) {
-    match write_first(input, h, rows, count, out, 0) {
-        HeaderWritten::Bytes(n, w) => write_commands(input, c, w, out, n),
-        HeaderWritten::Refused(e, n, _) => finish(out, n, e, c.line),
-    }
+fn write_lent(input: &[u8], h: Header, rows: &[u64], count: usize, c: Cursor, out: &mut [u8]) {
+    let end = lent_end(out.len());
+    write_all(input, h, rows, count, c, &mut out[0..end]);
 }
 
-// The header of a fresh writer, from `at` on.
-fn write_first(
-    input: &[u8],
-    h: Header,
-    rows: &[u64],
-    count: usize,
-    out: &mut [u8],
-    at: usize,
-) -> HeaderWritten {
-    let w = Writer::new();
-    if out.len() < at {
-        return HeaderWritten::Refused(Refusal::NoRoom, 0, w);
-    }
-    let end = lent_end(out.len(), at);
-    write_header::header(w, input, h, rows, count, &mut out[at..end])
-}
-
-// Where the part ends that is lent to a call from `at` on.
-fn lent_end(len: usize, at: usize) -> usize
-    requires { ⌜ at ≤ len ⌝ }
-    ensures { λ r. ⌜ (at ≤ r) × (r ≤ len) ⌝ }
+// Where the part ends that is lent to a call.
+fn lent_end(len: usize) -> usize
+    ensures { λ r. ⌜ r ≤ len ⌝ }
 {
-    if len - at < LENT {
+    if len < LENT {
         return len;
     }
-    at + LENT
+    LENT
 }
 
-// The last line, behind the bytes that are written.
-fn finish(out: &mut [u8], at: usize, e: Refusal, line: u64) {
-    let n = console::put_refused(out, at, e.number(), line);
-    console::write_front(out, n);
+// The last line.
+fn write_refused(e: Refusal, line: u64, out: &mut [u8]) {
+    crate::write_placed(lines::put_refused(e.number(), line, out), out);
 }
 
-// Every command from the cursor on.
-fn write_commands(input: &[u8], c: Cursor, w: Writer, out: &mut [u8], at: usize) {
+// The header of a fresh writer, then the commands from the cursor on.
+fn write_all(input: &[u8], h: Header, rows: &[u64], count: usize, c: Cursor, out: &mut [u8]) {
+    match write_header::header(Writer::new(), input, h, rows, count, out) {
+        HeaderWritten::Bytes(n, w) => {
+            console::write_front(out, n);
+            write_commands(input, c, w, out);
+        }
+        HeaderWritten::Refused(e, n, _) => {
+            console::write_front(out, n);
+            write_refused(e, c.line, out);
+        }
+    }
+}
+
+// Each turn writes as many commands as the output has room for; a command that has none in an empty one is refused.
+fn write_commands(input: &[u8], c: Cursor, w: Writer, out: &mut [u8]) {
     let mut cur = c;
     let mut state = w;
-    let mut used = at;
-    // Every command takes a byte at least.
+    // Every turn but the last takes a byte at least.
     let mut turns: u64 = 0;
     while turns < 4294967296 {
         turns += 1;
-        used = flush(out, used);
-        match parser::next_command(input, cur) {
-            Next::Command(k, d) => match write_next(state, input, k, out, used) {
-                Written::Bytes(n, v) => {
-                    used = console::behind(out, used, n);
-                    state = v;
-                    cur = d;
-                }
-                Written::Refused(e) => {
-                    return finish(out, used, e, d.line);
-                }
-            },
-            Next::Refused(e, line, _) => {
-                return finish(out, used, e, line);
+        let r = rewrite::rewrite(input, cur, state, out);
+        console::write_front(out, r.count);
+        match goes_on(r) {
+            Goes::On(d, v) => {
+                cur = d;
+                state = v;
             }
-            Next::Done(_) => {
-                return console::write_front(out, used);
+            Goes::Refused(e, line) => {
+                return write_refused(e, line, out);
+            }
+            Goes::Whole => {
+                return;
             }
         }
     }
 }
 
-// What is written goes out before less is left than a call is lent.
-fn flush(out: &[u8], used: usize) -> usize {
-    if used < LENT {
-        return used;
-    }
-    console::write_front(out, used);
-    0
+// What is left to do after a turn.
+enum Goes {
+    On(Cursor, Writer),
+    Refused(Refusal, u64),
+    Whole,
 }
 
-// One command, behind what is written.
-fn write_next(w: Writer, input: &[u8], k: Command, out: &mut [u8], at: usize) -> Written {
-    if out.len() < at {
-        return Written::Refused(Refusal::NoRoom);
+fn goes_on(r: Rewritten) -> Goes {
+    let ended = r.ended;
+    let d = r.cursor;
+    let v = r.writer;
+    match ended {
+        rewrite::Ended::Whole => Goes::Whole,
+        rewrite::Ended::Refused(e, line) => {
+            if e.number() == 21 && 0 < r.count {
+                return Goes::On(d, v);
+            }
+            Goes::Refused(e, line)
+        }
     }
-    let end = lent_end(out.len(), at);
-    w.command(input, k, &mut out[at..end])
 }

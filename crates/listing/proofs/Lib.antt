@@ -1,4 +1,5 @@
 pub mod Table
+pub mod Seen
 pub mod Listed
 pub mod Complete
 pub mod Widening

@@ -12,13 +12,11 @@ use Rattle.command.specs.declared.Refusal.{Refusal}
 use Rattle.command.specs.declared.Time.{Time}
 use Rattle.idcode.specs.declared.IdCode.{IdCode}
 use Rattle.parser.specs.All.{command, followed, commands}
-use Rattle.parser.specs.Next.{isGood, nextFrom}
+use Rattle.parser.specs.Next.{nextFrom}
 use Rattle.parser.specs.declared.Next.{Next}
-use Rattle.parser.proofs.Ahead.{good-valid}
 use Rattle.parser.proofs.All.{commands-step}
 use Rattle.text.proofs.Lists.{by-test}
 use Rattle.text.specs.declared.Text.{Text}
-use Rattle.token.specs.Read.{Valid}
 use Rattle.token.specs.declared.Cursor.{Cursor}
 use Rattle.listing.specs.Listing.{Told, time, change, other, told, ofCode, Entry, entries, sinceAfter, changes, stopOf, lastOf, rowsIn, beyond, roomed, listOf, answerOf, filled}
 use Rattle.listing.specs.Rows.{changeWords, wordsOf, put}
@@ -27,17 +25,8 @@ use Rattle.listing.specs.declared.Told.{Told as Tells}
 use Rattle.listing.specs.declared.rows.Change.{Change}
 use Rattle.listing.specs.declared.rows.ChangeKind.{ChangeKind}
 use Rattle.listing.specs.declared.rows.Since.{Since}
+use Rattle.listing.proofs.Seen.{Read}
 use Rattle.listing.proofs.Table.{filled-length, put-next}
-
--- only a good cursor reads a command
-pub command-valid : (s : List ℕ) (c : Cursor) (k : Command) (d : Cursor) → nextFrom s c ≡ Next.Command k d → Valid s c
-unfolding nextFrom
-command-valid s c k d e =
-    by-test (isGood s c) (λ g. good-valid s c g)
-    (λ g.
-    let f = rw g at e in
-    let z : _≡_ {A = ℕ} 0 1 = cc in
-    absurd (omega arith))
 
 -- ---- what a command gives, by what it is to the listing of a code
 abbrev gives : Cursor → Since → ℕ → Tells → List Entry
@@ -133,21 +122,20 @@ module _ (s : List ℕ) (i : IdCode) (c₀ : Cursor) (t₀ table : List ℕ) (c 
   listed-length = ap length (l .stored) ∙ filled-length (rowsIn (l .made)) t₀ (omega (arith, rows-count, l .room))
 
   -- a command that is no change of the code
-  pub listed-pass : (k : Command) (d : Cursor) (r : Tells) → nextFrom s c ≡ Next.Command k d → ofCode i (told s c k) ≡ r
-      → gives c t (d .line) r ≡ [] → Listed s i c₀ t₀ table d n (later t r)
-  listed-pass k d r e q g =
+  pub listed-pass : (d : Cursor) (r : Tells) → Read s i c d r → gives c t (d .line) r ≡ [] → Listed s i c₀ t₀ table d n (later t r)
+  listed-pass d r h g =
       record {
         made = l .made;
-        whole = l .whole ∙ ap (λ (x : List Entry). l .made ++ x) (ahead-step s c d k e i t r q ∙ rw g);
+        whole = l .whole ∙ ap (λ (x : List Entry). l .made ++ x) (ahead-step s c d (h .command) (h .next) i t r (h .tells) ∙ rw g);
         count = l .count;
         room = l .room;
         stored = l .stored;
-        stops = l .stops ∙ stop-step s c d k e;
-        lasts = l .lasts ∙ last-step s c d k e;
+        stops = l .stops ∙ stop-step s c d (h .command) (h .next);
+        lasts = l .lasts ∙ last-step s c d (h .command) (h .next);
       }
 
   -- a change of the code
-  module _ (k : Command) (d : Cursor) (kind : ChangeKind) (v : Text) (e : nextFrom s c ≡ Next.Command k d) (q : ofCode i (told s c k) ≡ Tells.Change kind v) where
+  module _ (d : Cursor) (kind : ChangeKind) (v : Text) (h : Read s i c d (Tells.Change kind v)) where
     abbrev row : Change
     row = Change.Is t (d .line) kind v
 
@@ -155,24 +143,24 @@ module _ (s : List ℕ) (i : IdCode) (c₀ : Cursor) (t₀ table : List ℕ) (c 
     one = record { row = row; from = c }
 
     next-is : ahead s i c₀ Since.None ≡ l .made ++ (one ∷ ahead s i d t)
-    next-is = l .whole ∙ ap (λ (x : List Entry). l .made ++ x) (ahead-step s c d k e i t _ q)
+    next-is = l .whole ∙ ap (λ (x : List Entry). l .made ++ x) (ahead-step s c d (h .command) (h .next) i t _ (h .tells))
 
     pub listed-change : n < length t₀ / 6 → Listed s i c₀ t₀ (put table n (changeWords row)) d (n + 1) t
-    listed-change h =
+    listed-change more =
         record {
           made = l .made ++ (one ∷ []);
           whole = next-is ∙ sym (append-assoc (l .made) (one ∷ []) (ahead s i d t));
           count = omega (arith, length-append (l .made) (one ∷ []), l .count);
           room = omega arith;
           stored = rw (l .stored, rows-join (l .made) (one ∷ [])) (put-next (rowsIn (l .made)) row t₀ n rows-count);
-          stops = l .stops ∙ stop-step s c d k e;
-          lasts = l .lasts ∙ last-step s c d k e;
+          stops = l .stops ∙ stop-step s c d (h .command) (h .next);
+          lasts = l .lasts ∙ last-step s c d (h .command) (h .next);
         }
 
     -- it finds no row
     full-is : length t₀ / 6 ≤ n → listOf s c₀ i t₀ ≡ record { rows = rowsIn (l .made); ended = Ended.Refused Refusal.ListFull (c .line); cursor = c }
     unfolding listOf roomed beyond
-    full-is h =
+    full-is full =
         let cap : length t₀ / 6 ≡ n = omega (arith, l .room) in
         let many : n < length (l .made ++ (one ∷ ahead s i d t)) = omega (arith, length-append (l .made) (one ∷ ahead s i d t), l .count) in
         let m : length (froms (l .made)) ≡ n = length-map (l .made) (λ (x : Entry). x .from) ∙ l .count in
@@ -191,11 +179,10 @@ module _ (s : List ℕ) (i : IdCode) (c₀ : Cursor) (t₀ table : List ℕ) (c 
       → (record { cursor = d; count = n; ended = e } ≡ answerOf (listOf s c₀ i t₀)) × (table ≡ filled (listOf s c₀ i t₀ .rows) t₀)
   ends-as e d o = rw o (rw rows-count, l .stored)
 
-  pub listed-full : (k : Command) (d : Cursor) (kind : ChangeKind) (v : Text) → nextFrom s c ≡ Next.Command k d
-      → ofCode i (told s c k) ≡ Tells.Change kind v → length t₀ / 6 ≤ n
+  pub listed-full : (d : Cursor) (kind : ChangeKind) (v : Text) → Read s i c d (Tells.Change kind v) → length t₀ / 6 ≤ n
       → (record { cursor = c; count = n; ended = Ended.Refused Refusal.ListFull (c .line) } ≡ answerOf (listOf s c₀ i t₀))
       × (table ≡ filled (listOf s c₀ i t₀ .rows) t₀)
-  listed-full k d kind v e q h = ends-as _ _ (full-is k d kind v e q h)
+  listed-full d kind v h full = ends-as _ _ (full-is d kind v h full)
 
   -- nothing is ahead
   last-is : (e : Ended) (d : Cursor) → ahead s i c t ≡ [] → stopOf (commands s c) ≡ e → lastOf (commands s c) ≡ d

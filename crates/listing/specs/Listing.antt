@@ -10,12 +10,14 @@ use Rattle.command.specs.declared.Refusal.{Refusal}
 use Rattle.command.specs.declared.Time.{Time}
 use Rattle.idcode.specs.declared.IdCode.{IdCode}
 use Rattle.parser.specs.All.{Commands, command, stop, finish, commands}
+use Rattle.parser.specs.declared.Next.{Next}
 use Rattle.text.specs.declared.Text.{Text}
 use Rattle.token.specs.Read.{skipped}
 use Rattle.token.specs.declared.Cursor.{Cursor}
 use Rattle.listing.specs.Rows.{wordsOf}
 use Rattle.listing.specs.declared.Ended.{Ended}
 use Rattle.listing.specs.declared.ListAnswer.{ListAnswer}
+use Rattle.listing.specs.declared.Look.{Look}
 use Rattle.listing.specs.declared.Told.{Told as Tells}
 use Rattle.listing.specs.declared.rows.Change.{Change}
 use Rattle.listing.specs.declared.rows.ChangeKind.{ChangeKind}
@@ -54,6 +56,17 @@ abbrev pub ofCode : IdCode → Told → Tells
 ofCode i (time u) = Tells.Time u
 ofCode i (change j k v) = cond (eqb (j .0) (i .0)) (Tells.Change k v) Tells.Other
 ofCode i other = Tells.Other
+
+-- what it sees next, with the cursor d behind it
+abbrev pub behind : Tells → Cursor → Look
+behind (Tells.Time u) d = Look.Time d u
+behind (Tells.Change k v) d = Look.Change d k v
+behind Tells.Other d = Look.Other d
+
+abbrev pub seen : List ℕ → IdCode → Cursor → Next → Look
+seen s i c (Next.Command k d) = behind (ofCode i (told s c k)) d
+seen s i c (Next.Refused e n d) = Look.Refused d e n
+seen s i c (Next.Done d) = Look.Done d
 
 -- a change, and the cursor as it stood before it
 pub record Entry : Type 0 where

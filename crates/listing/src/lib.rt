@@ -2,6 +2,7 @@
 mod rows;
 mod width;
 
+use brief::Brief;
 use command::Command;
 use command::Refusal;
 use command::Time;
@@ -10,11 +11,16 @@ use parser::Next;
 use text::Text;
 use token::Cursor;
 ghost use mathlib.Core.Path.{_≡_};
-ghost use Rattle.listing.specs.Listing.{listOf, answerOf, filled, change, told, ofCode, first as firstOf};
+ghost use lib.ListN.{length};
+ghost use Prim.Native.Nat.{_≤_};
+ghost use Rattle.listing.specs.Listing.{listOf, answerOf, filled, change, told, ofCode, seen, behind, first as firstOf};
+ghost use Rattle.brief.specs.Brief.{Tells};
+ghost use Rattle.parser.specs.Next.{nextFrom};
 ghost use Rattle.token.specs.Read.{Valid};
 pub use rows::Change;
 pub use rows::ChangeKind;
 pub use rows::Since;
+pub use rows::WORDS;
 pub use rows::change_at;
 pub use width::Widened;
 pub use width::widen;
@@ -36,36 +42,131 @@ pub fn list(input: &[u8], c: Cursor, code: IdCode, rows: &mut [u64]) -> ListAnsw
     ensures answer { λ r. ⌜ r ≡ answerOf (listOf (now (input .entry)) c code (now (rows .entry))) ⌝ }
     ensures table { λ _. ⌜ now (rows .exit) ≡ filled (listOf (now (input .entry)) c code (now (rows .entry)) .rows) (now (rows .entry)) ⌝ }
 {
+    if !parser::placed(input, c) {
+        return answer(c, 0, Ended::Refused(Refusal::BadPlace, c.line));
+    }
     let cap = rows.len() / rows::WORDS;
     let mut cur = c;
     let mut n: usize = 0;
     let mut since = Since::None;
     loop {
-        match parser::next_command(input, cur) {
-            Next::Command(k, d) => match tell(input, cur, k, code) {
-                Told::Time(t) => {
-                    since = Since::Time(t);
-                    cur = d;
+        match look_quick(input, cur, code) {
+            Look::Time(d, t) => {
+                since = Since::Time(t);
+                cur = d;
+            }
+            Look::Change(d, kind, v) => {
+                if cap <= n {
+                    return full(cur, n);
                 }
-                Told::Change(kind, v) => {
-                    if cap <= n {
-                        return full(cur, n);
-                    }
-                    rows::put_change(rows, n, since, d.line, kind, v);
-                    n += 1;
-                    cur = d;
-                }
-                Told::Other => {
-                    cur = d;
-                }
-            },
-            Next::Refused(e, line, d) => {
+                rows::put_change(rows, n, since, d.line, kind, v);
+                n += 1;
+                cur = d;
+            }
+            Look::Other(d) => {
+                cur = d;
+            }
+            Look::Refused(d, e, line) => {
                 return answer(d, n, Ended::Refused(e, line));
             }
-            Next::Done(d) => {
+            Look::Done(d) => {
                 return answer(d, n, Ended::Whole);
             }
         }
+    }
+}
+
+// What the listing of a code sees next, with the cursor behind it: a time, a change of the code, another command; or how reading ends.
+enum Look {
+    Time(Cursor, Time),
+    Change(Cursor, ChangeKind, Text),
+    Other(Cursor),
+    Refused(Cursor, Refusal, u64),
+    Done(Cursor),
+}
+
+// A quick look at the command that stands at a place. Each loop has its own, so that the compiler keeps it in the loop.
+fn glance(input: &[u8], at: usize) -> Brief
+    requires { ⌜ at ≤ length (now input) ⌝ }
+    requires { ⌜ length (now input) ≤ 4294967295 ⌝ }
+    ensures { λ r. ⌜ Tells (now (input .entry)) at r ⌝ }
+{
+    if input.len() <= at {
+        return Brief::Other;
+    }
+    let b = input[at];
+    match b {
+        b'#' => brief::time(input, at),
+        b'0' | b'1' | b'x' | b'X' | b'z' | b'Z' => brief::scalar(input, at),
+        b'b' | b'B' => brief::vector(input, at),
+        _ => Brief::Other,
+    }
+}
+
+// The usual commands are told by a quick look.
+fn look_quick(input: &[u8], c: Cursor, code: IdCode) -> Look
+    requires { ⌜ Valid (now input) c ⌝ }
+    ensures { λ r. ⌜ r ≡ seen (now (input .entry)) code c (nextFrom (now (input .entry)) c) ⌝ }
+{
+    let at = c.place;
+    match glance(input, at) {
+        Brief::Time(t, end) => Look::Time(token::word_read(c, end, input[end]), Time(t)),
+        Brief::Scalar(i, end) => look_value(
+            tell_value(
+                IdCode(i),
+                code,
+                ChangeKind::Scalar,
+                Text { start: at, len: 1 },
+            ),
+            token::word_read(c, end, input[end]),
+        ),
+        Brief::Vector(i, stop, end) => look_value(
+            tell_value(
+                IdCode(i),
+                code,
+                ChangeKind::Vector,
+                Text {
+                    start: at + 1,
+                    len: stop - (at + 1),
+                },
+            ),
+            token::word_read(c, end, input[end]),
+        ),
+        Brief::Other => look_plain(input, again(c), code),
+    }
+}
+
+// The same cursor, made anew: the quick way keeps its own in registers.
+fn again(c: Cursor) -> Cursor
+    ensures { λ r. ⌜ r ≡ c ⌝ }
+{
+    let sim = c.sim;
+    Cursor {
+        place: c.place,
+        line: c.line,
+        pending: c.pending,
+        sim,
+    }
+}
+
+fn look_plain(input: &[u8], c: Cursor, code: IdCode) -> Look
+    requires { ⌜ Valid (now input) c ⌝ }
+    ensures { λ r. ⌜ r ≡ seen (now (input .entry)) code c (nextFrom (now (input .entry)) c) ⌝ }
+{
+    match parser::next_command(input, c) {
+        Next::Command(k, d) => look_value(tell(input, c, k, code), d),
+        Next::Refused(e, line, d) => Look::Refused(d, e, line),
+        Next::Done(d) => Look::Done(d),
+    }
+}
+
+fn look_value(t: Told, d: Cursor) -> Look
+    ensures { λ r. ⌜ r ≡ behind t d ⌝ }
+{
+    match t {
+        Told::Time(u) => Look::Time(d, u),
+        Told::Change(kind, v) => Look::Change(d, kind, v),
+        Told::Other => Look::Other(d),
     }
 }
 

@@ -1,13 +1,17 @@
--- The loop that writes a number's digits into a row, from the last to the first.
+-- The loop that writes a number's digits into a row of zeros or a buffer, from the last to the first.
 use Prim.Native.Nat.{ℕ, zero, suc, _+_, _-_, _/_, _%_, _≤_, _<_}
-use mathlib.Core.Path.{_≡_, refl, sym, _∙_, ap}
+use mathlib.Core.Path.{_≡_, sym, _∙_, ap}
 use mathlib.Core.List.{List, [], _∷_, _++_}
+use native.Mathlib.Nat.{le-refl}
+use native.Mathlib.Numerals.{unary-clauses}
 use native.Mathlib.Omega.{arith}
 use lib.Dec.{ltb}
-use lib.ListN.{length, getD, take, drop, set, replicate, length-append, length-replicate, replicate-append-replicate, List·getD-append}
-use lib.Seq.{take-suc, take-at, take-length, getD-at, drop-cons, drop-append-seam, set-at, length-take-le}
-use Rattle.text.specs.Texts.{spelled}
+use lib.ListN.{length, getD, take, drop, set, replicate, length-append, length-drop, take-append-drop, List·getD-append}
+use lib.Seq.{take-suc, take-at, take-length, getD-at, drop-cons, drop-append-seam, append-snoc, set-at, length-take-le}
+use Rattle.text.specs.Texts.{spelled, putAnswer, putBytes}
+use Rattle.text.specs.declared.Placed.{Placed}
 use Rattle.text.proofs.Lists.{by-test}
+use Rattle.text.proofs.Rows.{row-spelled, copy-done}
 use Rattle.number.specs.Decimal.{decimalOf}
 use Rattle.number.proofs.Writing.{front, last-digit}
 
@@ -31,50 +35,80 @@ module _ (t : List ℕ) (j m : ℕ) (h : j < length t) (e : decimalOf m ≡ take
   cut-rest : 0 < j → decimalOf (m / 10) ≡ take j t
   cut-rest g = by-test (ltb m 10) (λ q. absurd (let z = rw q at size in omega arith)) (λ q. rw q at cut-front)
 
--- one zero more
-more-zeros : (j : ℕ) (s : List ℕ) → replicate (suc j) 0 ++ s ≡ replicate j 0 ++ 0 ∷ s
-more-zeros zero s = refl
-more-zeros (suc j) s = ap (λ (l : List ℕ). 0 ∷ l) (more-zeros j s)
+-- the row that a number's text is written into: the text, then what stood there before
+abbrev filled : ℕ → List ℕ → List ℕ
+filled n old = decimalOf n ++ drop (length (decimalOf n)) old
 
--- in a row of zeros up to j + 1, and from there on the bytes that it is to have, the byte at j is written
-fill-step : (row : List ℕ) (j v : ℕ) → j < length row → v ≡ getD row j 0
-    → set (replicate (suc j) 0 ++ drop (suc j) row) j v ≡ replicate j 0 ++ drop j row
-fill-step row j v h e =
-    ap (λ (l : List ℕ). set l j v) (more-zeros j (drop (suc j) row)) ∙ set-at (replicate j 0) 0 (drop (suc j) row) v j (length-replicate j 0)
-    ∙ rw (e, drop-cons row j 0 h)
+-- in a row that is `old` up to j + 1, and from there on has the bytes that it is to have, the byte at j is written
+fill-step : (old row : List ℕ) (j v : ℕ) → j < length old → j < length row → v ≡ getD row j 0
+    → set (take (suc j) old ++ drop (suc j) row) j v ≡ take j old ++ drop j row
+fill-step old row j v g h e =
+    rw (
+      take-suc old j 0 g,
+      append-snoc (take j old) (getD old j 0) (drop (suc j) row),
+      set-at (take j old) (getD old j 0) (drop (suc j) row) v j (length-take-le j old (omega arith)),
+      e,
+      drop-cons row j 0 h,
+    )
 
--- ---- the row of n's text is written from i on, and the text of `rest` is what is to be written before
-pub record Filled (n : ℕ) (bytes : List ℕ) (rest i : ℕ) : Type 0 where
+-- ---- the row is written from i on, and the text of `rest` is what is to be written before
+pub record Filled (n : ℕ) (old bytes : List ℕ) (rest i : ℕ) : Type 0 where
+  pub room : length (decimalOf n) ≤ length old
   pub within : i ≤ length (decimalOf n)
-  pub made : bytes ≡ replicate i 0 ++ drop i (spelled (decimalOf n) .bytes)
+  pub made : bytes ≡ take i old ++ drop i (filled n old)
   pub left : 0 < i → decimalOf rest ≡ take i (decimalOf n)
 
-pub fill-start : (n i : ℕ) → i ≡ length (decimalOf n) → i ≤ 32 → Filled n (replicate 32 0) n i
-fill-start n i e h =
+pub fill-start : (n i : ℕ) (old : List ℕ) → i ≡ length (decimalOf n) → i ≤ length old → Filled n old old n i
+fill-start n i old e h =
     let t : List ℕ = decimalOf n in
-    let all : i + (32 - i) ≡ 32 = omega arith in
     record {
+      room = omega arith;
       within = omega arith;
-      made = rw (e, drop-append-seam t (replicate (32 - length t) 0), ← e, replicate-append-replicate {A = ℕ} i (32 - i) 0, all);
+      made = rw (e, drop-append-seam t (drop (length t) old)) (sym (take-append-drop (length t) old));
       left = λ g. rw (e, take-length t);
     }
 
-fill-suc : (n : ℕ) (bytes : List ℕ) (rest j : ℕ) → Filled n bytes rest (suc j) → Filled n (set bytes j (48 + rest % 10)) (rest / 10) j
-fill-suc n bytes rest j f =
+fill-suc : (n : ℕ) (old bytes : List ℕ) (rest j : ℕ) → Filled n old bytes rest (suc j) → Filled n old (set bytes j (48 + rest % 10)) (rest / 10) j
+fill-suc n old bytes rest j f =
     let t : List ℕ = decimalOf n in
-    let zeros : List ℕ = replicate (32 - length t) 0 in
     let h : j < length t = f .within in
     let part : decimalOf rest ≡ take (suc j) t = f .left (omega arith) in
-    let digit : 48 + rest % 10 ≡ getD (t ++ zeros) j 0 = cut-last t j rest h part ∙ sym (List·getD-append t zeros 0 j h) in
+    let digit : 48 + rest % 10 ≡ getD (filled n old) j 0 = cut-last t j rest h part ∙ sym (List·getD-append t _ 0 j h) in
     record {
+      room = f .room;
       within = omega arith;
-      made = rw (f .made) (fill-step (t ++ zeros) j (48 + rest % 10) (simp length-append (omega arith)) digit);
+      made = rw (f .made) (fill-step old (filled n old) j (48 + rest % 10) (omega (arith, f .room)) (simp length-append (omega arith)) digit);
       left = cut-rest t j rest h part;
     }
 
-module _ (n : ℕ) (bytes : List ℕ) (rest i : ℕ) (f : Filled n bytes rest i) where
-  pub fill-more : 0 < i → Filled n (set bytes (i - 1) (48 + rest % 10)) (rest / 10) (i - 1)
-  fill-more g = let e : i ≡ suc (i - 1) = omega arith in fill-suc n bytes rest (i - 1) (rw e at f)
+module _ (n : ℕ) (old bytes : List ℕ) (rest i : ℕ) (f : Filled n old bytes rest i) where
+  pub fill-length : length bytes ≡ length old
+  fill-length =
+      omega (
+        arith,
+        f .room,
+        f .within,
+        simp (length-append, length-drop) at (ap length (f .made)),
+        length-take-le i old (omega (arith, f .room, f .within)),
+      )
 
-  pub fill-done : (len : ℕ) → i ≤ 0 → len ≡ length (decimalOf n) → record { bytes = bytes; len = len } ≡ spelled (decimalOf n)
-  fill-done len h e = let z : i ≡ 0 = omega arith in rw (f .made, z, e)
+  pub fill-more : 0 < i → Filled n old (set bytes (i - 1) (48 + rest % 10)) (rest / 10) (i - 1)
+  fill-more g = let e : i ≡ suc (i - 1) = omega arith in fill-suc n old bytes rest (i - 1) (rw e at f)
+
+  pub fill-done : i ≤ 0 → bytes ≡ filled n old
+  fill-done h = let z : i ≡ 0 = omega arith in rw z at (f .made)
+
+-- the two ways to hand it over: in a row of zeros, and in the buffer of whoever asks
+drop-replicate : (m k a : ℕ) → drop k (replicate m a) ≡ replicate (m - k) a
+drop-replicate m zero a = simp unary-clauses
+drop-replicate zero (suc k) a = let z : 0 - suc k ≡ 0 = omega arith in rw z
+drop-replicate (suc m) (suc k) a = simp unary-clauses (drop-replicate m k a)
+
+module _ (n len : ℕ) (bytes : List ℕ) (rest i : ℕ) (e : len ≡ length (decimalOf n)) (h : i ≤ 0) where
+  pub fill-spelled : Filled n (replicate 32 0) bytes rest i → record { bytes = bytes; len = len } ≡ spelled (decimalOf n)
+  fill-spelled f = row-spelled (decimalOf n) bytes len (sym e) (fill-done n (replicate 32 0) bytes rest i f h ∙ rw (← e, drop-replicate 32 len 0))
+
+  pub fill-put : (old : List ℕ) → Filled n old bytes rest i → (Placed.Count len ≡ putAnswer (decimalOf n) old) × (bytes ≡ putBytes (decimalOf n) old)
+  fill-put old f =
+      let t : List ℕ = decimalOf n in
+      rw e (copy-done t old bytes (length t) (record { room = f .room; within = le-refl _; made = rw (take-length t) (fill-done n old bytes rest i f h) }) (le-refl _))

@@ -3,11 +3,12 @@ mod real;
 
 pub use real::count_digits;
 pub use real::is_real;
+use text::Placed;
 use text::Spelled;
 ghost use mathlib.Core.Path.{_≡_};
 ghost use Prim.Native.Nat.{_+_, _^_};
 ghost use lib.ListN.{length};
-ghost use Rattle.text.specs.Texts.{spelled};
+ghost use Rattle.text.specs.Texts.{spelled, putAnswer, putBytes};
 ghost use Rattle.number.specs.Decimal.{
   parseBelow,
   digitsBelow,
@@ -150,6 +151,24 @@ pub fn decimal(n: u64) -> Spelled
         rest = rest / 10;
     }
     Spelled { bytes, len }
+}
+
+// The text of a number, put at the start of `out`.
+pub fn put_decimal(n: u64, out: &mut [u8]) -> Placed
+    ensures { λ r. ⌜ (r ≡ putAnswer (decimalOf n) (now (out .entry))) × (now (out .exit) ≡ putBytes (decimalOf n) (now (out .entry))) ⌝ }
+{
+    let len = digits(n);
+    if out.len() < len {
+        return Placed::NoRoom;
+    }
+    let mut rest = n;
+    let mut i = len;
+    while 0 < i {
+        i -= 1;
+        out[i] = 48 + (rest % 10) as u8;
+        rest = rest / 10;
+    }
+    Placed::Count(len)
 }
 
 // The text of a number with a sign.

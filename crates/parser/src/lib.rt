@@ -2,7 +2,7 @@
 mod change;
 mod declare;
 mod part;
-mod quick;
+pub mod quick;
 
 use command::Command;
 use command::Open;
@@ -93,7 +93,7 @@ pub fn next_command(input: &[u8], c: Cursor) -> Next
 }
 
 // May the cursor stand in the input?
-fn placed(input: &[u8], c: Cursor) -> bool
+pub fn placed(input: &[u8], c: Cursor) -> bool
     ensures { λ r. ⌜ r ≡ isGood (now (input .entry)) c ⌝ }
 {
     if 4294967295 < input.len() {

@@ -13,3 +13,4 @@ pub mod Pinned
 pub mod Points
 pub mod Listing
 pub mod Example
+pub mod Lines

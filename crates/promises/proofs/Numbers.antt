@@ -18,6 +18,7 @@ use Rattle.number.proofs.Laws.{accepted}
 use Rattle.idcode.specs.Id.{parseId}
 use Rattle.idcode.specs.declared.IdCode.{IdCode}
 use Rattle.idcode.specs.declared.Parsed.{Parsed}
+use Rattle.idcode.proofs.Pairing.{id-below}
 use Rattle.timescale.specs.Units.{parseUnit}
 use Rattle.timescale.specs.declared.ParsedUnit.{ParsedUnit}
 use Rattle.scope.specs.Index.{parseIndex}
@@ -43,7 +44,6 @@ use Rattle.parser.specs.declared.Kind.{Kind}
 use Rattle.parser.specs.declared.Next.{Next}
 use Rattle.parser.specs.declared.Word.{Word}
 use Rattle.write.specs.Run.{SizedIndex, Sized}
-use Rattle.promises.proofs.Ids.{id-below}
 
 -- every command that a plan answers has its numbers of their types
 data Sizes (s : List ℕ) : Plan → Type 0 where

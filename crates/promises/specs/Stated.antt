@@ -192,3 +192,8 @@ pub record WriterPoints : Type 0 where
   -- the id `n999999999` is rewritten the same, and so is a line with it
   pub same : (parseId (bytes "n999999999") ≡ Parsed.Code far) × (idText (far .0) ≡ bytes "n999999999")
   pub line : (readAll (bytes "1n999999999\n") start ≡ exactly (change far (scalar Value.V1) ∷ [])) × (layout (change far (scalar Value.V1)) ≡ bytes "1n999999999\n")
+
+-- ---- refusals of reading
+-- the line that one tells is that of the cursor it returns
+abbrev pub RefusalLine : Type 0
+RefusalLine = (s : List ℕ) (c : Cursor) (e : Refusal) (n : ℕ) (d : Cursor) → nextFrom s c ≡ Next.Refused e n d → n ≡ d .line

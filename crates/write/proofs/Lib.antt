@@ -1,6 +1,4 @@
--- `Storing` has words put one after the other, `Spelling` short texts by value, `Checks` what 25 and 22 ask of texts, `Outcomes` the ways
--- to answer, one law for each.
-pub mod Storing
+-- `Spelling` has short texts by value, `Checks` what 25 and 22 ask of texts, `Outcomes` the ways to answer, one law for each.
 pub mod Spelling
 pub mod Checks
 pub mod Outcomes

@@ -1,4 +1,4 @@
--- Short texts by value: their bytes, an index with a space before it, and a value's one byte.
+-- Short texts by value: an index with a space before it, and a value's one byte.
 use Prim.Native.Nat.{ℕ, _≤_}
 use mathlib.Core.Path.{_≡_, refl, ap, _∙_}
 use mathlib.Core.List.{List, [], _∷_, _++_}
@@ -14,11 +14,6 @@ use Rattle.text.specs.declared.Spelled.{Spelled}
 use Rattle.text.proofs.Rows.{text-in}
 use Rattle.value.specs.Values.{valueName, valueByte}
 use Rattle.value.specs.declared.Value.{Value}
-
--- the text of a row
-pub row-text : {x : Spelled} {r : List ℕ} (t : List ℕ) → x ≡ spelled t → r ≡ take (x .len) (x .bytes) → r ≡ t
-unfolding textIn
-row-text t e q = q ∙ (rw e (text-in t))
 
 pub spaced-text : {a r : Spelled} (s : Spelled) → a ≡ spelled (bytes " ") → r ≡ spelled (take 32 (textIn a ++ textIn s))
     → r ≡ spelled (take 32 (bytes " " ++ textIn s))

@@ -19,7 +19,7 @@ use Rattle.text.specs.Utf8.{validUtf8}
 use Rattle.text.specs.WhiteSpace.{trimmed}
 use Rattle.timescale.specs.Ieee.{unitName}
 use Rattle.value.specs.Values.{valueName}
-use Rattle.write.specs.Put.{concat}
+use Rattle.lay.specs.Put.{concat}
 use Rattle.write.specs.declared.Writer.{Writer}
 
 -- an index stands behind a space

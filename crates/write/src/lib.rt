@@ -1,7 +1,6 @@
 // The writer of value change dumps (write.rs of vcd 0.7.0): each call writes one command from the start of the lent output, and
 // answers how many bytes it wrote with the next state, or why it refused. A refused command changes no byte and no state.
 mod check;
-mod put;
 
 use command::Command;
 use command::Open;
@@ -27,7 +26,7 @@ ghost use Rattle.text.specs.Bytes.{bytes};
 ghost use Rattle.text.specs.Texts.{part, spelled, textIn, putAnswer, putBytes};
 ghost use Rattle.write.specs.Call.{call, outcome, outside, written, newVar, Does, Adds};
 ghost use Rattle.write.specs.Layout.{fresh, layout, raised as raisedId, indexed as indexedText, isOpen, isRemark, simNumber};
-ghost use Rattle.write.specs.Put.{concat};
+ghost use Rattle.lay.specs.Put.{concat};
 
 // The state, carried from call to call.
 pub struct Writer {
@@ -182,7 +181,7 @@ impl Writer {
         if !check::is_remark(v) {
             return Written::Refused(Refusal::NotWritable);
         }
-        self.laid(put::lay(b"$", word, b"\n    ", v, b"\n$end\n", out))
+        self.laid(lay::lay(b"$", word, b"\n    ", v, b"\n$end\n", out))
     }
 
     // Writes a `$timescale` command.
@@ -196,11 +195,11 @@ impl Writer {
         let digits = n.bytes;
         let u = unit.spell();
         let name = u.bytes;
-        self.laid(put::lay(
+        self.laid(lay::lay(
             b"$timescale ",
-            put::front(&digits, n.len),
+            lay::front(&digits, n.len),
             b" ",
-            put::front(&name, u.len),
+            lay::front(&name, u.len),
             b" $end\n",
             out,
         ))
@@ -224,9 +223,9 @@ impl Writer {
         let k = t.spell();
         let name = k.bytes;
         let w = self.at_depth(depth + 1);
-        w.laid(put::lay(
+        w.laid(lay::lay(
             b"$scope ",
-            put::front(&name, k.len),
+            lay::front(&name, k.len),
             b" ",
             v,
             b" $end\n",
@@ -343,9 +342,7 @@ impl Writer {
     pub fn timestamp(self, ts: Time, out: &mut [u8]) -> Written
         ensures { λ r. ⌜ Does r (now (out .exit)) (call self [] (Command.Timestamp ts) (now (out .entry))) ⌝ }
     {
-        let n = number::decimal(ts.0);
-        let digits = n.bytes;
-        self.laid(put::lay(b"#", put::front(&digits, n.len), b"\n", b"", b"", out))
+        self.laid(lay::lay_time(ts.0, out))
     }
 
     // Writes a change to a scalar variable.
@@ -355,10 +352,7 @@ impl Writer {
         if id.0 == NO_ID {
             return Written::Refused(Refusal::NotWritable);
         }
-        let value = [v.byte()];
-        let i = id.spell();
-        let code = i.bytes;
-        self.laid(put::lay(&value, put::front(&code, i.len), b"\n", b"", b"", out))
+        self.laid(lay::lay_scalar(v.byte(), id, out))
     }
 
     // Writes a change to a vector variable.
@@ -375,9 +369,7 @@ impl Writer {
         if !check::is_vector(values) {
             return Written::Refused(Refusal::NotWritable);
         }
-        let i = id.spell();
-        let code = i.bytes;
-        self.laid(put::lay_vector(values, put::front(&code, i.len), out))
+        self.laid(lay::lay_vector(values, id, out))
     }
 
     // Writes a change to a real variable, whose text is kept.
@@ -396,7 +388,7 @@ impl Writer {
         }
         let i = id.spell();
         let code = i.bytes;
-        self.laid(put::lay(b"r", number, b" ", put::front(&code, i.len), b"\n", out))
+        self.laid(lay::lay(b"r", number, b" ", lay::front(&code, i.len), b"\n", out))
     }
 
     // Writes a change to a string variable.
@@ -415,7 +407,7 @@ impl Writer {
         }
         let i = id.spell();
         let code = i.bytes;
-        self.laid(put::lay(b"s", string, b" ", put::front(&code, i.len), b"\n", out))
+        self.laid(lay::lay(b"s", string, b" ", lay::front(&code, i.len), b"\n", out))
     }
 
     // Writes the beginning of a simulation command.
@@ -425,7 +417,7 @@ impl Writer {
         let k = c.spell();
         let name = k.bytes;
         let w = self.with_open(Open::Of(c));
-        w.laid(put::lay(b"$", put::front(&name, k.len), b"\n", b"", b"", out))
+        w.laid(lay::lay(b"$", lay::front(&name, k.len), b"\n", b"", b"", out))
     }
 
     // Writes an `$end` to end the simulation command `c`, which must be the open one.
@@ -486,12 +478,12 @@ fn lay_var(
     let code = i.bytes;
     let x = indexed(index);
     let place = x.bytes;
-    put::lay_var(
-        put::front(&kind, k.len),
-        put::front(&digits, n.len),
-        put::front(&code, i.len),
+    lay::lay_var(
+        lay::front(&kind, k.len),
+        lay::front(&digits, n.len),
+        lay::front(&code, i.len),
         reference,
-        put::front(&place, x.len),
+        lay::front(&place, x.len),
         out,
     )
 }

@@ -8,7 +8,7 @@ use native.Mathlib.Nat.{add-zero, zero-add, add-assoc, sub-zero}
 use borrow.Author.Tests.{eq-eqb, ne-eqb, leb-true, eqb-true, eqb-false}
 use lib.Dec.{leb, eqb}
 use lib.ListN.{length, take, drop, length-append, length-drop, take-append-drop, drop-of-length-le}
-use lib.Seq.{length-take-le, drop-drop}
+use lib.Seq.{drop-drop}
 use Rattle.command.specs.Meaning.{Meaning, meaning}
 use Rattle.command.specs.declared.Command.{Command}
 use Rattle.command.specs.declared.Refusal.{Refusal}
@@ -16,22 +16,15 @@ use Rattle.text.specs.Texts.{putAnswer, putBytes}
 use Rattle.text.proofs.Lists.{by-test, take-rest}
 use Rattle.write.specs.Call.{call, outcome, misplaced, Does}
 use Rattle.write.specs.Layout.{layout, writable, stateAfter}
-use Rattle.write.specs.Put.{stored}
+use Rattle.lay.specs.Put.{stored}
 use Rattle.write.specs.Run.{layouts, statesAfter, taken}
 use Rattle.write.specs.declared.Writer.{Writer}
 use Rattle.write.specs.declared.Written.{Written}
-use Rattle.write.proofs.Storing.{stored-none, stored-next}
+use Rattle.lay.proofs.Storing.{stored-none, stored-length, stored-next}
 use Rattle.write_header.specs.Pour.{stop, pour, Writes}
 use Rattle.write_header.specs.Written.{Outcome, stopped, poured}
 use Rattle.write_header.specs.declared.HeaderWritten.{HeaderWritten}
 use Rattle.write_header.specs.declared.Wrote.{Wrote}
-
-stored-length : (o : List ℕ) (at : ℕ) (b : List ℕ) → at + length b ≤ length o → length (stored o at b) ≡ length o
-unfolding stored
-stored-length o at b h =
-    let a : length (take at o) ≡ at = length-take-le at o (omega arith) in
-    rw (length-append (take at o) (b ++ drop (at + length b) o), a, length-append b (drop (at + length b) o), length-drop (at + length b) o)
-    (omega arith)
 
 -- ---- one command
 module _ (o : List ℕ) (at : ℕ) (w : Writer) (m : Meaning) (ms : List Meaning) where

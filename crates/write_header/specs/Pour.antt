@@ -8,7 +8,7 @@ use lib.ListN.{length}
 use Rattle.command.specs.Meaning.{Meaning}
 use Rattle.command.specs.declared.Refusal.{Refusal}
 use Rattle.write.specs.Layout.{layout, writable, stateAfter}
-use Rattle.write.specs.Put.{stored}
+use Rattle.lay.specs.Put.{stored}
 use Rattle.write.specs.declared.Writer.{Writer}
 use Rattle.write_header.specs.Written.{Outcome}
 use Rattle.write_header.specs.declared.HeaderWritten.{HeaderWritten}

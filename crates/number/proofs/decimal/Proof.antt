@@ -2,12 +2,12 @@
 use native.Mathlib.Omega.{arith}
 use borrow.Author.Needs.{needs}
 use Rattle.number.proofs.Writing.{short}
-use Rattle.number.proofs.Filling.{Filled, fill-start, fill-more, fill-done}
+use Rattle.number.proofs.Filling.{Filled, fill-start, fill-more, fill-spelled}
 use Rattle.number.proofs.decimal.Statement.{statement}
 use Rattle.number.proofs.decimal.Tie as tie
 
 abbrev Inv-loop : tie.InvT-loop
-Inv-loop n len bytes₀ rest₀ i₀ bytes rest i = Filled n bytes rest i
+Inv-loop n len bytes₀ rest₀ i₀ bytes rest i = Filled n bytes₀ bytes rest i
 
 abbrev μ-loop : tie.MeasureT-loop
 μ-loop n len bytes₀ rest₀ i₀ bytes rest i = i
@@ -16,7 +16,7 @@ digits-requires : tie.Need-digits-requires Inv-loop μ-loop
 digits-requires c κs = search needs
 
 loop-holds : tie.Need-loop-holds Inv-loop μ-loop
-loop-holds c = fill-start _ _ (c .digits .ensures) (omega (arith, short 19 (c .before .args .n) (omega arith)))
+loop-holds c = fill-start _ _ _ (c .digits .ensures) (omega (arith, short 19 (c .before .args .n) (omega arith)))
 
 sub-i : tie.Need-sub-i Inv-loop μ-loop
 sub-i c = search needs
@@ -34,10 +34,10 @@ loop-less : tie.Need-loop-less Inv-loop μ-loop
 loop-less c = search needs
 
 loop-again : tie.Need-loop-again Inv-loop μ-loop
-loop-again c = fill-more _ _ _ _ (c .before .loop .inv) (c .loop-test .taken)
+loop-again c = fill-more _ _ _ _ _ (c .before .loop .inv) (c .loop-test .taken)
 
 returns : tie.Need-returns Inv-loop μ-loop
-returns c = fill-done _ _ _ _ (c .before .loop .inv) _ (c .loop-test .left) (c .before .before .digits .ensures)
+returns c = fill-spelled _ _ _ _ _ (c .before .before .digits .ensures) (c .loop-test .left) (c .before .loop .inv)
 
 pub decimal-spec : {M : Type 1} → statement M
 decimal-spec =

@@ -5,7 +5,7 @@ use Rattle.text.specs.Bytes.{bytes}
 use Rattle.idcode.specs.Id.{idText}
 use Rattle.number.specs.Decimal.{decimalOf}
 use Rattle.write.specs.Layout.{layout, indexed}
-use Rattle.write.proofs.Spelling.{row-text}
+use Rattle.lay.proofs.Storing.{row-text}
 use Rattle.write.proofs.lay_var.Statement.{statement}
 use Rattle.write.proofs.lay_var.Tie as tie
 

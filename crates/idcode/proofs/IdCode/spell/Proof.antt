@@ -1,18 +1,20 @@
--- `idcode::IdCode::spell` meets its contract. The loop's invariant is `Spelling`. Assumes nothing.
+-- `idcode::IdCode::spell` meets its contract. Assumes nothing.
 use native.Mathlib.Omega.{arith}
 use borrow.Author.Needs.{needs}
-use Rattle.idcode.proofs.Spelling.{Spelling, spell-start, inside, spell-more, spell-done}
+use Rattle.text.proofs.Rows.{Row, row-start}
+use Rattle.idcode.specs.Id.{idText}
+use Rattle.idcode.proofs.Spelling.{Spelling, spell-start, inside, spell-more, row-next, row-done}
 use Rattle.idcode.proofs.IdCode.spell.Statement.{statement}
 use Rattle.idcode.proofs.IdCode.spell.Tie as tie
 
 abbrev Inv-loop : tie.InvT-loop
-Inv-loop bytes₀ rest₀ n₀ bytes rest n = Spelling rest₀ bytes rest n
+Inv-loop bytes₀ rest₀ n₀ bytes rest n = Spelling rest₀ rest n × Row (idText rest₀) bytes n
 
 abbrev μ-loop : tie.MeasureT-loop
 μ-loop bytes₀ rest₀ n₀ bytes rest n = rest
 
 loop-holds : tie.Need-loop-holds Inv-loop μ-loop
-loop-holds c = spell-start (c .args .self .0) (omega arith)
+loop-holds c = (spell-start (c .args .self .0) (omega arith), row-start _)
 
 cast-bytes : tie.Need-cast-bytes Inv-loop μ-loop
 cast-bytes c = search needs
@@ -21,10 +23,10 @@ add-bytes : tie.Need-add-bytes Inv-loop μ-loop
 add-bytes c = search needs
 
 array-write-bytes : tie.Need-array-write-bytes Inv-loop μ-loop
-array-write-bytes c = omega (arith, inside _ _ _ _ (c .loop .inv))
+array-write-bytes c = omega (arith, inside _ _ _ (c .loop .inv .0))
 
 add-n : tie.Need-add-n Inv-loop μ-loop
-add-n c = omega (arith, inside _ _ _ _ (c .loop .inv))
+add-n c = omega (arith, inside _ _ _ (c .loop .inv .0))
 
 sub-rest : tie.Need-sub-rest Inv-loop μ-loop
 sub-rest c = search needs
@@ -33,10 +35,10 @@ loop-less : tie.Need-loop-less Inv-loop μ-loop
 loop-less c = search needs
 
 loop-again : tie.Need-loop-again Inv-loop μ-loop
-loop-again c = spell-more _ _ _ _ (c .before .loop .inv) (c .loop-test .left)
+loop-again c = let i = c .before .loop .inv in (spell-more _ _ _ (i .0) (c .loop-test .left), row-next _ _ _ (i .0) (i .1))
 
 returns : tie.Need-returns Inv-loop μ-loop
-returns c = spell-done _ _ _ _ (c .before .loop .inv) (c .loop-test .taken)
+returns c = let i = c .before .loop .inv in row-done _ _ _ (i .0) (i .1) (c .loop-test .taken)
 
 pub spell-spec : {M : Type 1} → statement M
 spell-spec =

@@ -7,7 +7,7 @@ use Rattle.write.specs.Layout.{layout, stateAfter}
 use Rattle.write.specs.Call.{call}
 use Rattle.write.proofs.Checks.{none-long}
 use Rattle.write.proofs.Outcomes.{laid-out}
-use Rattle.write.proofs.Spelling.{row-text}
+use Rattle.lay.proofs.Storing.{row-text}
 use Rattle.write.proofs.Writer.begin.Statement.{statement}
 use Rattle.write.proofs.Writer.begin.Tie as tie
 

@@ -7,7 +7,7 @@ use Rattle.write.specs.Layout.{layout, stateAfter, isShortReal, isId}
 use Rattle.write.specs.Call.{call}
 use Rattle.write.proofs.Checks.{id-none, id-some}
 use Rattle.write.proofs.Outcomes.{bad-place, not-writable, laid-out, judged-no, judged-yes}
-use Rattle.write.proofs.Spelling.{row-text}
+use Rattle.lay.proofs.Storing.{row-text}
 use Rattle.write.proofs.Writer.change_real.Statement.{statement}
 use Rattle.write.proofs.Writer.change_real.Tie as tie
 

@@ -1,12 +1,11 @@
 -- `write::Writer::change_scalar` meets its contract. Assumes nothing.
 use mathlib.Core.Path.{refl}
 use borrow.Author.Needs.{needs}
-use Rattle.idcode.specs.Id.{idText}
 use Rattle.write.specs.Layout.{layout, stateAfter}
 use Rattle.write.specs.Call.{call}
 use Rattle.write.proofs.Checks.{none-long, id-none, id-some}
 use Rattle.write.proofs.Outcomes.{not-writable, laid-out}
-use Rattle.write.proofs.Spelling.{row-text, value-name}
+use Rattle.write.proofs.Spelling.{value-name}
 use Rattle.write.proofs.Writer.change_scalar.Statement.{statement}
 use Rattle.write.proofs.Writer.change_scalar.Tie as tie
 
@@ -17,17 +16,10 @@ returns c = not-writable _ _ _ _ _ none-long (rw (id-none (c .before .before .be
 returns-2 : tie.Need-returns-2
 unfolding call stateAfter layout
 returns-2 c =
-    let x = c .before .before .before .before .before .before .before .before .before .before .before .before .before .before .before .before .before .args in
-    let code = row-text (idText (x .id .0)) (c .before .before .before .before .before .before .before .before .before .before .before .before .spell .ensures) (c .before .before .before .before .before .before .before .before .front .ensures) in
-    laid-out _ _ _ _ _ none-long (rw (id-some (x .id) (c .before .before .before .before .before .before .before .before .before .before .before .before .before .before .if1 .left))) (c .laid .ensures) (c .before .before .before .lay .ensures) refl
-    (rw (code, c .before .before .before .before .before .before .before .before .before .before .before .before .before .byte .ensures, ← value-name (x .v)))
+    let x = c .before .before .before .before .before .before .before .before .before .args in
+    laid-out _ _ _ _ _ none-long (rw (id-some (x .id) (c .before .before .before .before .before .before .if1 .left))) (c .laid .ensures) (c .before .before .before .lay-scalar .ensures) refl
+    (rw (c .before .before .before .before .before .byte .ensures, ← value-name (x .v)))
 
 pub change-scalar-spec : {M : Type 1} → statement M
 change-scalar-spec =
-    tie.close
-    (tie.spec
-    returns
-    (λ c κs. search needs) (λ c κs. search needs) (λ c. search needs) (λ c. search needs) (λ c κs. search needs)
-    (λ c. search needs) (λ c. search needs) (λ c. search needs) (λ c κs. search needs) (λ c κs. search needs)
-    (λ c. search needs)
-    returns-2)
+    tie.close (tie.spec returns (λ c κs. search needs) (λ c κs. search needs) (λ c κs. search needs) (λ c. search needs) returns-2)

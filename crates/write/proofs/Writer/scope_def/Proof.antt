@@ -10,7 +10,7 @@ use Rattle.text.specs.Texts.{part}
 use Rattle.write.specs.Layout.{layout, stateAfter, isName}
 use Rattle.write.specs.Call.{call}
 use Rattle.write.proofs.Outcomes.{bad-place, not-writable, laid-out, judged-no, judged-yes}
-use Rattle.write.proofs.Spelling.{row-text}
+use Rattle.lay.proofs.Storing.{row-text}
 use Rattle.write.proofs.Writer.scope_def.Statement.{statement}
 use Rattle.write.proofs.Writer.scope_def.Tie as tie
 

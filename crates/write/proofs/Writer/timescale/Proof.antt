@@ -9,7 +9,7 @@ use Rattle.write.specs.Layout.{layout, stateAfter}
 use Rattle.write.specs.Call.{call}
 use Rattle.write.proofs.Checks.{none-long}
 use Rattle.write.proofs.Outcomes.{not-writable, laid-out}
-use Rattle.write.proofs.Spelling.{row-text}
+use Rattle.lay.proofs.Storing.{row-text}
 use Rattle.write.proofs.Writer.timescale.Statement.{statement}
 use Rattle.write.proofs.Writer.timescale.Tie as tie
 

@@ -1,0 +1,200 @@
+// `ours MODE FILE TURNS [ID]`: the library over a file that is in memory, with the words and answers of crate_bench (bench/crate); beside
+// its modes `next`, which reads as `read` does but by one call a command. `ours reformat` rewrites standard input to standard output.
+#include <fcntl.h>
+#include <stdint.h>
+#include <stdio.h>
+#include <stdlib.h>
+#include <string.h>
+#include <sys/stat.h>
+#include <time.h>
+#include <unistd.h>
+
+#include "vcd.h"
+
+// Words of a header's table; records read a call; bytes written a call by `reformat`.
+enum { TABLE = VCD_MOST_ROWS * VCD_ROW, RECORDS = 256, ROOM = 65536 };
+
+// A dump, the code to list, and what is lent to the calls. Nothing lent is cleared between turns.
+struct dump {
+  uint8_t *bytes;
+  size_t len;
+  uint64_t code;
+  uint64_t *changes;
+  size_t changes_len;
+  uint8_t *out;
+  size_t room;
+};
+
+struct found {
+  uint64_t count, sum;
+};
+
+static uint64_t table[TABLE], head[VCD_HEAD];
+
+static void die(const char *what) {
+  fprintf(stderr, "ours: %s\n", what);
+  exit(1);
+}
+
+static void expect(const char *call, uint64_t wanted, uint64_t status) {
+  if (status == wanted) return;
+  fprintf(stderr, "ours: %s answered %llu\n", call, (unsigned long long)status);
+  exit(1);
+}
+
+static void *memory(size_t size) {
+  void *p = malloc(size);
+  if (!p) die("no memory");
+  return p;
+}
+
+static struct found load(struct dump *d) { return (struct found){d->len, 0}; }
+
+// Every command; the sum is of kinds.
+static struct found read_all(struct dump *d) {
+  uint64_t records[VCD_RECORD * RECORDS], cursor[VCD_CURSOR] = VCD_CURSOR_START, n = 0, status;
+  struct found f = {0, 0};
+  do {
+    status = vcd_read(d->bytes, d->len, cursor, VCD_CURSOR, records, VCD_RECORD * RECORDS, &n);
+    for (uint64_t i = 0; i < n; i++) f.sum += records[VCD_RECORD * i + VCD_RECORD_KIND];
+    f.count += n;
+  } while (status == VCD_OK);
+  expect("vcd_read", VCD_DONE, status);
+  return f;
+}
+
+static struct found next_all(struct dump *d) {
+  uint64_t record[VCD_RECORD], cursor[VCD_CURSOR] = VCD_CURSOR_START, status;
+  struct found f = {0, 0};
+  while ((status = vcd_next(d->bytes, d->len, cursor, VCD_CURSOR, record, VCD_RECORD)) == VCD_OK) {
+    f.sum += record[VCD_RECORD_KIND];
+    f.count++;
+  }
+  expect("vcd_next", VCD_DONE, status);
+  return f;
+}
+
+static void read_header(struct dump *d, uint64_t *cursor) {
+  expect("vcd_header", VCD_OK, vcd_header(d->bytes, d->len, cursor, VCD_CURSOR, table, TABLE, head, VCD_HEAD));
+}
+
+// The header, then every change of one code; the sum is of times, lines and lengths of values.
+static struct found list(struct dump *d) {
+  uint64_t cursor[VCD_CURSOR] = VCD_CURSOR_START;
+  struct found f = {0, 0};
+  read_header(d, cursor);
+  expect("vcd_list", VCD_OK, vcd_list(d->bytes, d->len, cursor, VCD_CURSOR, d->code, d->changes, d->changes_len, &f.count));
+  for (uint64_t i = 0; i < f.count; i++) {
+    const uint64_t *change = d->changes + VCD_CHANGE * i;
+    f.sum += change[VCD_CHANGE_TIME] + change[VCD_CHANGE_LINE] + change[VCD_CHANGE_LEN];
+  }
+  return f;
+}
+
+// Reads the header and writes it into the memory lent; answers how many bytes.
+static uint64_t rewrite_header(struct dump *d, uint64_t *cursor, uint64_t *writer) {
+  uint64_t n;
+  read_header(d, cursor);
+  expect("vcd_write_header", VCD_OK,
+         vcd_write_header(writer, VCD_WRITER, d->bytes, d->len, head, VCD_HEAD, table, TABLE, d->out, d->room, &n));
+  return n;
+}
+
+// The header, then every command, written anew into memory.
+static struct found rewrite(struct dump *d) {
+  uint64_t cursor[VCD_CURSOR] = VCD_CURSOR_START, writer[VCD_WRITER] = VCD_WRITER_START, n, line;
+  uint64_t used = rewrite_header(d, cursor, writer);
+  expect("vcd_rewrite", VCD_OK,
+         vcd_rewrite(d->bytes, d->len, cursor, VCD_CURSOR, writer, VCD_WRITER, d->out + used, d->room - used, &n, &line));
+  return (struct found){used + n, 0};
+}
+
+static void put(const uint8_t *bytes, size_t len) {
+  while (len > 0) {
+    ssize_t n = write(STDOUT_FILENO, bytes, len);
+    if (n < 0) die("cannot write");
+    bytes += n;
+    len -= n;
+  }
+}
+
+// The same to standard output, in turns. No command of the dumps is longer than a turn.
+static void reformat(struct dump *d) {
+  uint64_t cursor[VCD_CURSOR] = VCD_CURSOR_START, writer[VCD_WRITER] = VCD_WRITER_START, n = 0, line, status;
+  put(d->out, rewrite_header(d, cursor, writer));
+  do {
+    status = vcd_rewrite(d->bytes, d->len, cursor, VCD_CURSOR, writer, VCD_WRITER, d->out, ROOM, &n, &line);
+    put(d->out, n);
+  } while (status == VCD_NO_ROOM && n > 0);
+  expect("vcd_rewrite", VCD_OK, status);
+}
+
+// The whole of a file. Twice its size is lent for writing, and for listing as many rows as it could have changes, of three bytes at
+// least: the system gives only the pages that are used.
+static struct dump whole(int file) {
+  struct dump d = {0};
+  size_t size = ROOM;
+  struct stat s;
+  ssize_t n;
+  if (fstat(file, &s) == 0 && s.st_size >= ROOM) size = s.st_size + 1;
+  d.bytes = memory(size);
+  while ((n = read(file, d.bytes + d.len, size - d.len)) > 0) {
+    d.len += n;
+    if (d.len == size && !(d.bytes = realloc(d.bytes, size *= 2))) die("no memory");
+  }
+  if (n < 0) die("cannot read");
+  d.room = 2 * d.len + ROOM;
+  d.out = memory(d.room);
+  d.changes_len = VCD_CHANGE * (d.len / 3 + 1);
+  d.changes = memory(sizeof(uint64_t) * d.changes_len);
+  return d;
+}
+
+static uint64_t nanoseconds(void) {
+  struct timespec t;
+  if (clock_gettime(CLOCK_PROCESS_CPUTIME_ID, &t) != 0) die("no such clock");
+  return (uint64_t)t.tv_sec * 1000000000 + t.tv_nsec;
+}
+
+typedef struct found work(struct dump *);
+
+static work *mode_of(const char *name) {
+  static const struct {
+    const char *name;
+    work *does;
+  } modes[] = {{"load", load}, {"read", read_all}, {"next", next_all}, {"list", list}, {"rewrite", rewrite}, {"bytes", rewrite}};
+  for (size_t i = 0; i < sizeof modes / sizeof *modes; i++)
+    if (strcmp(name, modes[i].name) == 0) return modes[i].does;
+  die("no such mode");
+  return NULL;
+}
+
+static void measure(work *does, struct dump *d, int turns, int written) {
+  struct found f = {0, 0};
+  uint64_t best = UINT64_MAX;
+  for (int i = 0; i < turns; i++) {
+    uint64_t start = nanoseconds();
+    f = does(d);
+    uint64_t took = nanoseconds() - start;
+    if (took < best) best = took;
+  }
+  if (written)
+    put(d->out, f.count);
+  else
+    printf("%llu %llu %llu\n", (unsigned long long)f.count, (unsigned long long)f.sum, (unsigned long long)best);
+}
+
+int main(int argc, char **argv) {
+  if (argc == 2 && strcmp(argv[1], "reformat") == 0) {
+    struct dump d = whole(STDIN_FILENO);
+    reformat(&d);
+    return 0;
+  }
+  if (argc < 4) die("usage: ours MODE FILE TURNS [ID], or ours reformat");
+  int file = open(argv[2], O_RDONLY);
+  if (file < 0) die("cannot open the file");
+  struct dump d = whole(file);
+  if (argc > 4) expect("vcd_id_code", VCD_OK, vcd_id_code((const uint8_t *)argv[4], strlen(argv[4]), &d.code));
+  measure(mode_of(argv[1]), &d, atoi(argv[3]), strcmp(argv[1], "bytes") == 0);
+  return 0;
+}

@@ -1,0 +1,49 @@
+-- What a quick look tells: the command that reading from there gives, wherever the lines stand. Of what is unusual it tells nothing.
+use Prim.Native.Nat.{ℕ, _+_, _-_, _^_, _<_}
+use mathlib.Core.Path.{_≡_}
+use mathlib.Core.Bool.{true}
+use mathlib.Core.List.{List}
+use lib.ListN.{length, getD}
+use Rattle.text.specs.Texts.{part}
+use Rattle.text.specs.declared.Text.{Text}
+use Rattle.command.specs.declared.Command.{Command}
+use Rattle.parser.specs.Next.{nextFrom}
+use Rattle.parser.specs.declared.Next.{Next}
+use Rattle.token.specs.Flat.{wordRead}
+use Rattle.token.specs.Read.{Valid}
+use Rattle.token.specs.declared.Cursor.{Cursor}
+use Rattle.value.specs.Values.{valueOf, areValues}
+use Rattle.value.specs.declared.ParsedValue.{ParsedValue}
+use Rattle.value.specs.declared.Value.{Value}
+use Rattle.brief.specs.declared.Brief.{Brief}
+
+-- from every valid cursor at `at` the command k is read, no newline in it, up to the blank at e
+pub record Reads (s : List ℕ) (at e : ℕ) (k : Command) : Type 0 where
+  pub past : at < e
+  pub inside : e < length s
+  pub reads : (c : Cursor) → Valid s c → c .place ≡ at → nextFrom s c ≡ Next.Command k (wordRead c e (getD s e 0))
+
+-- a change of a scalar, whose value the first byte means, of an id that has a text
+pub record ReadsScalar (s : List ℕ) (at e i : ℕ) : Type 0 where
+  pub value : Value
+  pub means : valueOf (getD s at 0) ≡ ParsedValue.Is value
+  pub id : i < 2 ^ 64 - 1
+  pub change : Reads s at e (Command.ChangeScalar (record { 0 = i }) value)
+
+-- a vector's values, from behind the first byte up to `stop`
+abbrev pub valuesAt : ℕ → ℕ → Text
+valuesAt at stop = record { start = at + 1; len = stop - (at + 1) }
+
+-- a change of a vector
+pub record ReadsVector (s : List ℕ) (at stop e i : ℕ) : Type 0 where
+  pub some : at + 1 < stop
+  pub before : stop < e
+  pub values : areValues (part s (valuesAt at stop)) ≡ true
+  pub id : i < 2 ^ 64 - 1
+  pub change : Reads s at e (Command.ChangeVector (record { 0 = i }) (valuesAt at stop))
+
+abbrev pub Tells : List ℕ → ℕ → Brief → Type 0
+Tells s at (Brief.Time t e) = Reads s at e (Command.Timestamp (record { 0 = t }))
+Tells s at (Brief.Scalar i e) = ReadsScalar s at e i
+Tells s at (Brief.Vector i stop e) = ReadsVector s at stop e i
+Tells s at Brief.Other = Unit {0}

@@ -1,0 +1,3 @@
+-- `Storing` has words put one after the other, `Framing` one between others.
+pub mod Storing
+mod Framing

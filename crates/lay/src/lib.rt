@@ -1,0 +1,213 @@
+// Texts put at the start of an output: all of a text where it has room, else nothing. Parts of the writer and of what prints lines,
+// which hand over room; users call those.
+use idcode::IdCode;
+use text::Placed;
+ghost use mathlib.Core.Path.{_≡_};
+ghost use mathlib.Core.List.{[], _∷_, _++_, map};
+ghost use Prim.Native.Nat.{_+_, _≤_};
+ghost use lib.Dec.{leb};
+ghost use lib.ListN.{length, take};
+ghost use Rattle.text.specs.Bytes.{bytes};
+ghost use Rattle.text.specs.Texts.{putAnswer, putBytes};
+ghost use Rattle.value.specs.Values.{lower};
+ghost use Rattle.lay.specs.Put.{concat, stored, timeText, scalarText, vectorText, Inside, closedAnswer, closedBytes};
+
+// Whether so many bytes have room; the sum itself could be too large.
+pub fn fits(room: usize, a: usize, b: usize, c: usize, d: usize, e: usize) -> bool
+    ensures { λ r. ⌜ r ≡ leb (a + b + c + d + e) room ⌝ }
+{
+    if room < a {
+        return false;
+    }
+    let left = room - a;
+    if left < b {
+        return false;
+    }
+    let left = left - b;
+    if left < c {
+        return false;
+    }
+    let left = left - c;
+    if left < d {
+        return false;
+    }
+    e <= left - d
+}
+
+// Puts `word` into `out` from `at` on, and answers the place behind it.
+pub fn put(out: &mut [u8], at: usize, word: &[u8]) -> usize
+    requires { ⌜ at + length (now word) ≤ length (now out) ⌝ }
+    ensures { λ r. ⌜ (r ≡ at + length (now (word .entry))) × (now (out .exit) ≡ stored (now (out .entry)) at (now (word .entry))) ⌝ }
+{
+    let mut i = 0;
+    let mut o = at;
+    while i < word.len() {
+        out[o] = word[i];
+        o += 1;
+        i += 1;
+    }
+    o
+}
+
+// The same in lower case.
+pub fn put_lower(out: &mut [u8], at: usize, word: &[u8]) -> usize
+    requires { ⌜ at + length (now word) ≤ length (now out) ⌝ }
+    ensures { λ r. ⌜ (r ≡ at + length (map lower (now (word .entry)))) × (now (out .exit) ≡ stored (now (out .entry)) at (map lower (now (word .entry)))) ⌝ }
+{
+    let mut i = 0;
+    let mut n = at;
+    while i < word.len() {
+        let b = word[i];
+        let low = value::vector::lowered(b);
+        out[n] = low;
+        n += 1;
+        i += 1;
+    }
+    n
+}
+
+// The text of a row of bytes.
+pub fn front(row: &[u8], len: usize) -> &[u8]
+    ensures { λ r. ⌜ now r ≡ take len (now (row .entry)) ⌝ }
+{
+    if row.len() < len {
+        return row;
+    }
+    &row[..len]
+}
+
+// Puts five words, one after the other.
+pub fn put_five(
+    out: &mut [u8],
+    at: usize,
+    a: &[u8],
+    b: &[u8],
+    c: &[u8],
+    d: &[u8],
+    e: &[u8],
+) -> usize
+    requires { ⌜ at + (length (now a) + length (now b) + length (now c) + length (now d) + length (now e)) ≤ length (now out) ⌝ }
+    ensures { λ r. ⌜ (r ≡ at + length (concat (now (a .entry) ∷ now (b .entry) ∷ now (c .entry) ∷ now (d .entry) ∷ now (e .entry) ∷ []))) × (now (out .exit) ≡ stored (now (out .entry)) at (concat (now (a .entry) ∷ now (b .entry) ∷ now (c .entry) ∷ now (d .entry) ∷ now (e .entry) ∷ []))) ⌝ }
+{
+    let n = put(out, at, a);
+    let n = put(out, n, b);
+    let n = put(out, n, c);
+    let n = put(out, n, d);
+    put(out, n, e)
+}
+
+// Five words.
+pub fn lay(a: &[u8], b: &[u8], c: &[u8], d: &[u8], e: &[u8], out: &mut [u8]) -> Placed
+    ensures { λ r. ⌜ (r ≡ putAnswer (concat (now (a .entry) ∷ now (b .entry) ∷ now (c .entry) ∷ now (d .entry) ∷ now (e .entry) ∷ [])) (now (out .entry))) × (now (out .exit) ≡ putBytes (concat (now (a .entry) ∷ now (b .entry) ∷ now (c .entry) ∷ now (d .entry) ∷ now (e .entry) ∷ [])) (now (out .entry))) ⌝ }
+{
+    if !fits(out.len(), a.len(), b.len(), c.len(), d.len(), e.len()) {
+        return Placed::NoRoom;
+    }
+    Placed::Count(put_five(out, 0, a, b, c, d, e))
+}
+
+// A first byte and a newline, round what p says to stand from place 1 on.
+fn close(first: u8, p: Placed, out: &mut [u8]) -> Placed
+    requires { ⌜ Inside p (length (now out)) ⌝ }
+    ensures { λ r. ⌜ (r ≡ closedAnswer p) × (now (out .exit) ≡ closedBytes first p (now (out .entry))) ⌝ }
+{
+    match p {
+        Placed::Count(n) => {
+            out[0] = first;
+            out[n + 1] = b'\n';
+            Placed::Count(n + 2)
+        }
+        Placed::NoRoom => Placed::NoRoom,
+    }
+}
+
+// A timestamp.
+pub fn lay_time(n: u64, out: &mut [u8]) -> Placed
+    ensures { λ r. ⌜ (r ≡ putAnswer (timeText n) (now (out .entry))) × (now (out .exit) ≡ putBytes (timeText n) (now (out .entry))) ⌝ }
+{
+    if out.len() < 2 {
+        return Placed::NoRoom;
+    }
+    let last = out.len() - 1;
+    close(b'#', number::put_decimal(n, &mut out[1..last]), out)
+}
+
+// A scalar's change: the value's byte, and the id.
+pub fn lay_scalar(value: u8, id: IdCode, out: &mut [u8]) -> Placed
+    ensures { λ r. ⌜ (r ≡ putAnswer (scalarText value (id .0)) (now (out .entry))) × (now (out .exit) ≡ putBytes (scalarText value (id .0)) (now (out .entry))) ⌝ }
+{
+    if out.len() < 2 {
+        return Placed::NoRoom;
+    }
+    let last = out.len() - 1;
+    close(value, id.put(&mut out[1..last]), out)
+}
+
+// A vector's change: the values in lower case, and the id.
+pub fn lay_vector(v: &[u8], id: IdCode, out: &mut [u8]) -> Placed
+    ensures { λ r. ⌜ (r ≡ putAnswer (vectorText (now (v .entry)) (id .0)) (now (out .entry))) × (now (out .exit) ≡ putBytes (vectorText (now (v .entry)) (id .0)) (now (out .entry))) ⌝ }
+{
+    if out.len() < 3 {
+        return Placed::NoRoom;
+    }
+    if out.len() - 3 < v.len() {
+        return Placed::NoRoom;
+    }
+    let last = out.len() - 1;
+    let at = v.len() + 2;
+    match id.put(&mut out[at..last]) {
+        Placed::Count(n) => {
+            put_values(out, v);
+            out[at + n] = b'\n';
+            Placed::Count(at + n + 1)
+        }
+        Placed::NoRoom => Placed::NoRoom,
+    }
+}
+
+// What stands before a vector's id.
+fn put_values(out: &mut [u8], v: &[u8])
+    requires { ⌜ length (now v) + 2 ≤ length (now out) ⌝ }
+    ensures { λ _. ⌜ now (out .exit) ≡ stored (now (out .entry)) 0 (concat (bytes "b" ∷ map lower (now (v .entry)) ∷ bytes " " ∷ [])) ⌝ }
+{
+    out[0] = b'b';
+    let o = put_lower(out, 1, v);
+    out[o] = b' ';
+}
+
+// The words of a variable.
+fn put_var(out: &mut [u8], kind: &[u8], width: &[u8], id: &[u8], name: &[u8], index: &[u8]) -> usize
+    requires { ⌜ 14 + (length (now kind) + length (now width) + length (now id) + length (now name) + length (now index)) ≤ length (now out) ⌝ }
+    ensures { λ r. ⌜ (r ≡ length (concat (bytes "$var " ∷ now (kind .entry) ∷ bytes " " ∷ now (width .entry) ∷ bytes " " ∷ now (id .entry) ∷ bytes " " ∷ now (name .entry) ∷ now (index .entry) ∷ bytes " $end\n" ∷ []))) × (now (out .exit) ≡ stored (now (out .entry)) 0 (concat (bytes "$var " ∷ now (kind .entry) ∷ bytes " " ∷ now (width .entry) ∷ bytes " " ∷ now (id .entry) ∷ bytes " " ∷ now (name .entry) ∷ now (index .entry) ∷ bytes " $end\n" ∷ []))) ⌝ }
+{
+    let n = put_five(out, 0, b"$var ", kind, b" ", width, b" ");
+    put_five(out, n, id, b" ", name, index, b" $end\n")
+}
+
+// A variable: type, width, id, reference and index, which is empty or has a space before it.
+pub fn lay_var(
+    kind: &[u8],
+    width: &[u8],
+    id: &[u8],
+    name: &[u8],
+    index: &[u8],
+    out: &mut [u8],
+) -> Placed
+    ensures { λ r. ⌜ (r ≡ putAnswer (concat (bytes "$var " ∷ now (kind .entry) ∷ bytes " " ∷ now (width .entry) ∷ bytes " " ∷ now (id .entry) ∷ bytes " " ∷ now (name .entry) ∷ now (index .entry) ∷ bytes " $end\n" ∷ [])) (now (out .entry))) × (now (out .exit) ≡ putBytes (concat (bytes "$var " ∷ now (kind .entry) ∷ bytes " " ∷ now (width .entry) ∷ bytes " " ∷ now (id .entry) ∷ bytes " " ∷ now (name .entry) ∷ now (index .entry) ∷ bytes " $end\n" ∷ [])) (now (out .entry))) ⌝ }
+{
+    if out.len() < 14 {
+        return Placed::NoRoom;
+    }
+    let room = out.len() - 14;
+    if !fits(
+        room,
+        kind.len(),
+        width.len(),
+        id.len(),
+        name.len(),
+        index.len(),
+    ) {
+        return Placed::NoRoom;
+    }
+    Placed::Count(put_var(out, kind, width, id, name, index))
+}

@@ -1,0 +1,5 @@
+pub mod Numbers
+pub mod Used
+pub mod Table
+pub mod Taken
+pub mod Back

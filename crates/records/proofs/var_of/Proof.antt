@@ -1,0 +1,41 @@
+-- `records::var_of` meets its contract. Assumes nothing.
+use borrow.Author.Needs.{needs}
+use Rattle.records.proofs.var_of.Statement.{statement}
+use Rattle.records.proofs.var_of.Tie as tie
+
+enum-known-row : tie.Need-enum-known-row
+enum-known-row c = search needs
+
+enum-told : tie.Need-enum-told
+enum-told c = search needs
+
+enum-told-2 : tie.Need-enum-told-2
+enum-told-2 c = search needs
+
+enum-told-3 : tie.Need-enum-told-3
+enum-told-3 c = search needs
+
+returns : tie.Need-returns
+returns c = rw (c .before .before .before .row .given .1)
+
+returns-2 : tie.Need-returns-2
+returns-2 c = rw (c .enum-told .given .1)
+
+returns-3 : tie.Need-returns-3
+returns-3 c = rw (c .enum-told2 .given .1)
+
+returns-4 : tie.Need-returns-4
+returns-4 c = rw (c .enum-told3 .given .1)
+
+pub var-of-spec : {M : Type 1} → statement M
+var-of-spec =
+    tie.close
+    (tie.spec
+    enum-known-row
+    enum-told
+    enum-told-2
+    enum-told-3
+    returns
+    returns-2
+    returns-3
+    returns-4)

@@ -1,0 +1,57 @@
+-- Reading into records: the commands from a cursor, in order, as many as have room.
+use Prim.Native.Nat.{ℕ, zero, suc, _*_, _/_}
+use mathlib.Core.Bool.{cond}
+use mathlib.Core.List.{List, [], _∷_, _++_}
+use lib.ListN.{length, drop}
+use Rattle.command.specs.declared.Command.{Command}
+use Rattle.command.specs.declared.Refusal.{Refusal}
+use Rattle.parser.specs.All.{Commands, command, stop, finish, commands}
+use Rattle.parser.specs.Next.{isGood}
+use Rattle.parser.specs.declared.Next.{Next}
+use Rattle.token.specs.declared.Cursor.{Cursor}
+use Rattle.records.specs.Records.{recordWords, wordsOf, put}
+use Rattle.records.specs.declared.Ended.{Ended}
+use Rattle.records.specs.declared.ReadAnswer.{ReadAnswer}
+use Rattle.records.specs.declared.Step.{Step}
+
+pub record Outcome : Type 0 where
+  pub commands : List Command
+  pub cursor : Cursor
+  pub ended : Ended
+
+-- no command, and how it ends
+abbrev pub ends : Cursor → Ended → Outcome
+ends c e = record { commands = []; cursor = c; ended = e }
+
+abbrev pub after : Command → Outcome → Outcome
+after k o = record { commands = k ∷ o .commands; cursor = o .cursor; ended = o .ended }
+
+-- at most n commands; with no room for one more it is not asked whether there is one
+unfoldable pub taken : ℕ → Cursor → Commands → Outcome
+taken zero c cs = ends c Ended.Full
+taken (suc n) c (command k d more) = after k (taken n d more)
+taken (suc n) c (stop e line d) = ends d (Ended.Refused e line)
+taken (suc n) c (finish d) = ends d Ended.Whole
+
+-- 25 first
+unfoldable pub readOf : List ℕ → Cursor → List ℕ → Outcome
+readOf s c table =
+    cond (isGood s c) (taken (length table / 9) c (commands s c)) (ends c (Ended.Refused Refusal.BadPlace (c .line)))
+
+abbrev pub answerOf : Outcome → ReadAnswer
+answerOf o = record { cursor = o .cursor; count = length (o .commands); ended = o .ended }
+
+-- the table then: the commands' words, and the rest as it was
+abbrev pub filled : List Command → List ℕ → List ℕ
+filled ks table = wordsOf ks ++ drop (9 * length ks) table
+
+-- ---- what one step of it answers and leaves
+abbrev pub stepOf : Next → Step
+stepOf (Next.Command k d) = Step.Read d
+stepOf (Next.Refused e line d) = Step.Ends d (Ended.Refused e line)
+stepOf (Next.Done d) = Step.Ends d Ended.Whole
+
+abbrev pub tableOf : Next → List ℕ → ℕ → List ℕ
+tableOf (Next.Command k d) table n = put table n (recordWords k)
+tableOf (Next.Refused e line d) table n = table
+tableOf (Next.Done d) table n = table

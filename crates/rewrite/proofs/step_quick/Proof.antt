@@ -1,0 +1,162 @@
+-- `rewrite::step_quick` meets its contract. Assumes nothing.
+use native.Mathlib.Omega.{arith}
+use borrow.Author.Needs.{needs}
+use denote.Ref.{now}
+use Rattle.brief.specs.Brief.{Reads, ReadsScalar, ReadsVector}
+use Rattle.command.specs.declared.Command.{Command}
+use Rattle.text.specs.Texts.{part}
+use Rattle.rewrite.proofs.Usual.{time-steps, scalar-steps, vector-steps}
+use Rattle.rewrite.proofs.step_quick.Statement.{statement}
+use Rattle.rewrite.proofs.step_quick.Tie as tie
+
+-- what the quick look told
+time : (c : tie.After-t) → Reads (now (c .before .before .before .before .before .args .input)) (c .before .before .before .before .before .args .c .place) (c .t .given .0 .1 .0) (Command.Timestamp (record { 0 = c .t .given .0 .0 }))
+time c = rw (c .t .given .1) at (c .before .before .glance .ensures)
+
+scalar : (c : tie.After-i) → ReadsScalar (now (c .before .before .before .before .before .args .input)) (c .before .before .before .before .before .args .c .place) (c .i .given .0 .1 .0) (c .i .given .0 .0)
+scalar c = rw (c .i .given .1) at (c .before .before .glance .ensures)
+
+vector : (c : tie.After-i2) → ReadsVector (now (c .before .before .before .before .before .args .input)) (c .before .before .before .before .before .args .c .place) (c .i2 .given .0 .1 .0) (c .i2 .given .0 .1 .1 .0) (c .i2 .given .0 .0)
+vector c = rw (c .i2 .given .1) at (c .before .before .glance .ensures)
+
+glance-requires : tie.Need-glance-requires
+glance-requires c κs = search needs
+
+enum-known-t : tie.Need-enum-known-t
+enum-known-t c = search needs
+
+lay-time-requires : tie.Need-lay-time-requires
+lay-time-requires c κs = search needs
+
+shared-slice-read-word-read : tie.Need-shared-slice-read-word-read
+shared-slice-read-word-read c = omega (arith, time (c .before .before .before .before .before .before) .inside)
+
+word-read-requires : tie.Need-word-read-requires
+word-read-requires c κs = (omega (arith, time (c .before .before .before .before .before .before) .inside, c .before .before .before .before .before .before .before .before .before .before .before .pre .short), omega (arith, c .before .before .before .before .before .before .before .before .before .before .before .pre .counted, c .before .before .before .before .before .before .before .before .before .before .before .pre .within, c .before .before .before .before .before .before .before .before .before .before .before .pre .short))
+
+laid-requires : tie.Need-laid-requires
+laid-requires c κs = search needs
+
+enum-known-i : tie.Need-enum-known-i
+enum-known-i c = search needs
+
+shared-slice-read-lowered : tie.Need-shared-slice-read-lowered
+shared-slice-read-lowered c = omega (arith, scalar (c .before .before) .change .past, scalar (c .before .before) .change .inside)
+
+lowered-requires : tie.Need-lowered-requires
+lowered-requires c κs = search needs
+
+lay-scalar-requires : tie.Need-lay-scalar-requires
+lay-scalar-requires c κs = search needs
+
+shared-slice-read-word-read-2 : tie.Need-shared-slice-read-word-read-2
+shared-slice-read-word-read-2 c = omega (arith, scalar (c .before .before .before .before .before .before .before .before) .change .inside)
+
+word-read-requires-2 : tie.Need-word-read-requires-2
+word-read-requires-2 c κs = (omega (arith, scalar (c .before .before .before .before .before .before .before .before) .change .inside, c .before .before .before .before .before .before .before .before .before .before .before .before .before .pre .short), omega (arith, c .before .before .before .before .before .before .before .before .before .before .before .before .before .pre .counted, c .before .before .before .before .before .before .before .before .before .before .before .before .before .pre .within, c .before .before .before .before .before .before .before .before .before .before .before .before .before .pre .short))
+
+laid-requires-2 : tie.Need-laid-requires-2
+laid-requires-2 c κs = search needs
+
+enum-known-i-2 : tie.Need-enum-known-i-2
+enum-known-i-2 c = search needs
+
+add-lay-vector : tie.Need-add-lay-vector
+add-lay-vector c = search needs
+
+sub-lay-vector : tie.Need-sub-lay-vector
+sub-lay-vector c = let x = vector (c .before) in omega (arith, x .some, x .before, x .change .inside)
+
+part-lay-vector-start : tie.Need-part-lay-vector-start
+part-lay-vector-start c = let x = vector (c .before) in omega (arith, x .some, x .before, x .change .inside)
+
+part-lay-vector-end : tie.Need-part-lay-vector-end
+part-lay-vector-end c = let x = vector (c .before) in omega (arith, x .some, x .before, x .change .inside)
+
+lay-vector-requires : tie.Need-lay-vector-requires
+lay-vector-requires c κs = search needs
+
+shared-slice-read-word-read-3 : tie.Need-shared-slice-read-word-read-3
+shared-slice-read-word-read-3 c = omega (arith, vector (c .before .before .before .before .before .before .before) .change .inside)
+
+word-read-requires-3 : tie.Need-word-read-requires-3
+word-read-requires-3 c κs = (omega (arith, vector (c .before .before .before .before .before .before .before) .change .inside, c .before .before .before .before .before .before .before .before .before .before .before .before .pre .short), omega (arith, c .before .before .before .before .before .before .before .before .before .before .before .before .pre .counted, c .before .before .before .before .before .before .before .before .before .before .before .before .pre .within, c .before .before .before .before .before .before .before .before .before .before .before .before .pre .short))
+
+laid-requires-3 : tie.Need-laid-requires-3
+laid-requires-3 c κs = search needs
+
+enum-told : tie.Need-enum-told
+enum-told c = search needs
+
+again-requires : tie.Need-again-requires
+again-requires c κs = search needs
+
+state-again-requires : tie.Need-state-again-requires
+state-again-requires c κs = search needs
+
+step-plain-requires : tie.Need-step-plain-requires
+step-plain-requires c κs = rw (c .before .before .again .ensures) (c .before .before .before .before .before .before .before .before .pre)
+
+same-length : tie.Need-same-length
+same-length c = search needs
+
+returns : tie.Need-returns
+returns c = time-steps _ _ _ _ (c .before .before .before .before .before .before .before .before .before .before .before .before .before .pre) _ _ _ _ (rw (← c .before .word-read .ensures) (c .laid .ensures)) _ (time (c .before .before .before .before .before .before .before .before)) (c .before .before .before .before .before .lay-time .ensures)
+
+same-length-2 : tie.Need-same-length-2
+same-length-2 c = search needs
+
+returns-2 : tie.Need-returns-2
+returns-2 c = scalar-steps _ _ _ _ (c .before .before .before .before .before .before .before .before .before .before .before .before .before .before .before .pre) _ _ _ _ (rw (← c .before .word-read2 .ensures) (c .laid2 .ensures)) _ (scalar (c .before .before .before .before .before .before .before .before .before .before)) (rw (c .before .before .before .before .before .before .before .lowered .ensures) at (c .before .before .before .before .before .lay-scalar .ensures))
+
+same-length-3 : tie.Need-same-length-3
+same-length-3 c = search needs
+
+returns-3 : tie.Need-returns-3
+unfolding part
+returns-3 c = vector-steps _ _ _ _ (c .before .before .before .before .before .before .before .before .before .before .before .before .before .before .pre) _ _ _ _ (rw (← c .before .word-read3 .ensures) (c .laid3 .ensures)) _ _ (vector (c .before .before .before .before .before .before .before .before .before)) (c .before .before .before .before .before .lay-vector .ensures)
+
+same-length-4 : tie.Need-same-length-4
+same-length-4 c = search needs
+
+returns-4 : tie.Need-returns-4
+returns-4 c = rw (← c .before .before .before .before .before .again .ensures, ← c .before .before .before .before .state-again .ensures) (c .before .before .step-plain .ensures)
+
+pub step-quick-spec : {M : Type 1} → statement M
+step-quick-spec =
+    tie.close
+    (tie.spec
+    glance-requires
+    enum-known-t
+    lay-time-requires
+    shared-slice-read-word-read
+    word-read-requires
+    laid-requires
+    enum-known-i
+    shared-slice-read-lowered
+    lowered-requires
+    lay-scalar-requires
+    shared-slice-read-word-read-2
+    word-read-requires-2
+    laid-requires-2
+    enum-known-i-2
+    add-lay-vector
+    sub-lay-vector
+    part-lay-vector-start
+    part-lay-vector-end
+    lay-vector-requires
+    shared-slice-read-word-read-3
+    word-read-requires-3
+    laid-requires-3
+    enum-told
+    again-requires
+    state-again-requires
+    step-plain-requires
+    same-length
+    returns
+    same-length-2
+    returns-2
+    same-length-3
+    returns-3
+    same-length-4
+    returns-4)

@@ -1,0 +1,170 @@
+// Commands read and written anew, as many as one output has room for: the work of one turn of a program that rewrites a dump.
+use brief::Brief;
+use command::Refusal;
+use idcode::IdCode;
+use parser::Next;
+use text::Placed;
+use token::Cursor;
+use write::Writer;
+use write::Written;
+ghost use mathlib.Core.Path.{_≡_};
+ghost use lib.ListN.{length};
+ghost use Prim.Native.Nat.{_≤_};
+ghost use Rattle.brief.specs.Brief.{Tells};
+ghost use Rattle.parser.specs.Next.{nextFrom};
+ghost use Rattle.token.specs.Read.{Valid};
+ghost use Rattle.write.specs.Call.{written};
+ghost use Rattle.rewrite.specs.Rewrite.{rewriteOf, answerOf, filled, wroteOf, stepOf, leftBy};
+
+// How it ended: at the end of the input, or by a refusal of reading or writing and the reader's line then.
+pub enum Ended {
+    Whole,
+    Refused(Refusal, u64),
+}
+
+// The cursor behind the last command that was written or refused by the reader, the writer's state, and how many bytes were written.
+pub struct Rewritten {
+    pub cursor: Cursor,
+    pub writer: Writer,
+    pub count: usize,
+    pub ended: Ended,
+}
+
+// One command written, with its bytes, the state and the cursor then; or how it ends.
+enum Step {
+    Wrote(Cursor, usize, Writer),
+    Ends(Cursor, Ended),
+}
+
+// Rewrites the commands from the cursor on.
+pub fn rewrite(input: &[u8], c: Cursor, w: Writer, out: &mut [u8]) -> Rewritten
+    ensures answer { λ r. ⌜ r ≡ answerOf (rewriteOf (now (input .entry)) c w (now (out .entry))) ⌝ }
+    ensures bytes { λ _. ⌜ now (out .exit) ≡ filled (rewriteOf (now (input .entry)) c w (now (out .entry)) .bytes) (now (out .entry)) ⌝ }
+{
+    if !parser::placed(input, c) {
+        return answer(c, w, 0, Ended::Refused(Refusal::BadPlace, c.line));
+    }
+    let mut cur = c;
+    let mut state = w;
+    let mut used: usize = 0;
+    loop {
+        match step_quick(input, cur, state, &mut out[used..]) {
+            Step::Wrote(d, n, v) => {
+                used += n;
+                state = v;
+                cur = d;
+            }
+            Step::Ends(d, e) => {
+                return answer(d, state, used, e);
+            }
+        }
+    }
+}
+
+fn answer(cursor: Cursor, writer: Writer, count: usize, ended: Ended) -> Rewritten
+    ensures { λ r. ⌜ r ≡ record { cursor = cursor; writer = writer; count = count; ended = ended } ⌝ }
+{
+    Rewritten {
+        cursor,
+        writer,
+        count,
+        ended,
+    }
+}
+
+// A quick look at the command that stands at a place. Each loop has its own, so that the compiler keeps it in the loop.
+fn glance(input: &[u8], at: usize) -> Brief
+    requires { ⌜ at ≤ length (now input) ⌝ }
+    requires { ⌜ length (now input) ≤ 4294967295 ⌝ }
+    ensures { λ r. ⌜ Tells (now (input .entry)) at r ⌝ }
+{
+    if input.len() <= at {
+        return Brief::Other;
+    }
+    let b = input[at];
+    match b {
+        b'#' => brief::time(input, at),
+        b'0' | b'1' | b'x' | b'X' | b'z' | b'Z' => brief::scalar(input, at),
+        b'b' | b'B' => brief::vector(input, at),
+        _ => Brief::Other,
+    }
+}
+
+// The usual commands are told by a quick look; they may always be written and change no state.
+fn step_quick(input: &[u8], c: Cursor, w: Writer, out: &mut [u8]) -> Step
+    requires { ⌜ Valid (now input) c ⌝ }
+    ensures { λ r. ⌜ (r ≡ stepOf (now (input .entry)) c w (now (out .entry)) (nextFrom (now (input .entry)) c)) × (now (out .exit) ≡ leftBy (now (input .entry)) w (now (out .entry)) (nextFrom (now (input .entry)) c)) ⌝ }
+{
+    let at = c.place;
+    match glance(input, at) {
+        Brief::Time(t, end) => {
+            let p = lay::lay_time(t, out);
+            laid(p, c, w, token::word_read(c, end, input[end]))
+        }
+        Brief::Scalar(i, end) => {
+            let v = value::vector::lowered(input[at]);
+            let p = lay::lay_scalar(v, IdCode(i), out);
+            laid(p, c, w, token::word_read(c, end, input[end]))
+        }
+        Brief::Vector(i, stop, end) => {
+            let p = lay::lay_vector(&input[at + 1..stop], IdCode(i), out);
+            laid(p, c, w, token::word_read(c, end, input[end]))
+        }
+        Brief::Other => step_plain(input, again(c), state_again(w), out),
+    }
+}
+
+// The same cursor and state, made anew: the quick way keeps its own in registers.
+fn again(c: Cursor) -> Cursor
+    ensures { λ r. ⌜ r ≡ c ⌝ }
+{
+    let sim = c.sim;
+    Cursor {
+        place: c.place,
+        line: c.line,
+        pending: c.pending,
+        sim,
+    }
+}
+
+fn state_again(w: Writer) -> Writer
+    ensures { λ r. ⌜ r ≡ w ⌝ }
+{
+    let id = w.id;
+    let sim = w.sim;
+    Writer {
+        depth: w.depth,
+        id,
+        sim,
+    }
+}
+
+// The answer where only the room was in question, for a command between the cursors c and d.
+fn laid(p: Placed, c: Cursor, w: Writer, d: Cursor) -> Step
+    ensures { λ r. ⌜ r ≡ wroteOf c d (written w p) ⌝ }
+{
+    match p {
+        Placed::Count(n) => Step::Wrote(d, n, w),
+        Placed::NoRoom => Step::Ends(c, Ended::Refused(Refusal::NoRoom, d.line)),
+    }
+}
+
+fn step_plain(input: &[u8], c: Cursor, w: Writer, out: &mut [u8]) -> Step
+    requires { ⌜ Valid (now input) c ⌝ }
+    ensures { λ r. ⌜ (r ≡ stepOf (now (input .entry)) c w (now (out .entry)) (nextFrom (now (input .entry)) c)) × (now (out .exit) ≡ leftBy (now (input .entry)) w (now (out .entry)) (nextFrom (now (input .entry)) c)) ⌝ }
+{
+    match parser::next_command(input, c) {
+        Next::Command(k, d) => wrote(w.command(input, k, out), c, d),
+        Next::Refused(e, line, d) => Step::Ends(d, Ended::Refused(e, line)),
+        Next::Done(d) => Step::Ends(d, Ended::Whole),
+    }
+}
+
+fn wrote(r: Written, c: Cursor, d: Cursor) -> Step
+    ensures { λ r0. ⌜ r0 ≡ wroteOf c d r ⌝ }
+{
+    match r {
+        Written::Bytes(n, v) => Step::Wrote(d, n, v),
+        Written::Refused(e) => Step::Ends(c, Ended::Refused(e, d.line)),
+    }
+}

@@ -1,0 +1,4 @@
+pub mod Back
+mod Words
+mod Taken
+mod Reading
