@@ -100,7 +100,15 @@ static uint64_t rewrite_header(struct dump *d, uint64_t *cursor, uint64_t *write
   return n;
 }
 
-// The header, then every command, written anew into memory.
+// Every command written anew into memory, those of the header too.
+static struct found commands(struct dump *d) {
+  uint64_t cursor[VCD_CURSOR] = VCD_CURSOR_START, writer[VCD_WRITER] = VCD_WRITER_START, n, line;
+  expect("vcd_rewrite", VCD_OK,
+         vcd_rewrite(d->bytes, d->len, cursor, VCD_CURSOR, writer, VCD_WRITER, d->out, d->room, &n, &line));
+  return (struct found){n, 0};
+}
+
+// The header through its table, then every command, written anew into memory.
 static struct found rewrite(struct dump *d) {
   uint64_t cursor[VCD_CURSOR] = VCD_CURSOR_START, writer[VCD_WRITER] = VCD_WRITER_START, n, line;
   uint64_t used = rewrite_header(d, cursor, writer);
@@ -162,7 +170,8 @@ static work *mode_of(const char *name) {
   static const struct {
     const char *name;
     work *does;
-  } modes[] = {{"load", load}, {"read", read_all}, {"next", next_all}, {"list", list}, {"rewrite", rewrite}, {"bytes", rewrite}};
+  } modes[] = {{"load", load},         {"read", read_all},           {"next", next_all},   {"list", list},
+               {"commands", commands}, {"command-bytes", commands}, {"rewrite", rewrite}, {"bytes", rewrite}};
   for (size_t i = 0; i < sizeof modes / sizeof *modes; i++)
     if (strcmp(name, modes[i].name) == 0) return modes[i].does;
   die("no such mode");
@@ -195,6 +204,6 @@ int main(int argc, char **argv) {
   if (file < 0) die("cannot open the file");
   struct dump d = whole(file);
   if (argc > 4) expect("vcd_id_code", VCD_OK, vcd_id_code((const uint8_t *)argv[4], strlen(argv[4]), &d.code));
-  measure(mode_of(argv[1]), &d, atoi(argv[3]), strcmp(argv[1], "bytes") == 0);
+  measure(mode_of(argv[1]), &d, atoi(argv[3]), strstr(argv[1], "bytes") != NULL);
   return 0;
 }

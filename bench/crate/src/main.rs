@@ -1,6 +1,6 @@
 //! `crate_bench MODE FILE TURNS [ID]`: crate vcd 0.7.0 over a file that is in memory, TURNS times. Prints how much was found, a sum over
 //! it that bench/ours.c forms too, and the processor's nanoseconds in the best turn. MODE is `load` (nothing, for what loading costs),
-//! `read`, `list` or `rewrite`; `bytes` writes out what `rewrite` makes.
+//! `read`, `list`, `commands` or `rewrite`; `command-bytes` and `bytes` write out what the last two make.
 mod clock;
 
 use std::hint::black_box;
@@ -25,12 +25,13 @@ fn main() {
             "load" => (input.len(), 0),
             "read" => read(&input),
             "list" => list(&input, id.expect("an id"), &mut changes),
+            "commands" | "command-bytes" => commands(&input, &mut out),
             "rewrite" | "bytes" => rewrite(&input, &mut out),
             mode => panic!("no such mode: {mode}"),
         };
         best = best.min(clock::nanoseconds() - start);
     }
-    if args[1] == "bytes" {
+    if args[1].ends_with("bytes") {
         std::io::stdout().write_all(&out).expect("written");
     } else {
         println!("{} {} {best}", found.0, found.1);
@@ -112,7 +113,17 @@ fn length(change: &Command) -> u64 {
     }
 }
 
-/// The header, then every command, written anew into memory.
+/// Every command written anew into memory, those of the header too.
+fn commands(input: &[u8], out: &mut Vec<u8>) -> Found {
+    out.clear();
+    let mut writer = Writer::new(&mut *out);
+    for command in Parser::new(input) {
+        writer.command(&command.expect("a command")).expect("written");
+    }
+    (black_box(out).len(), 0)
+}
+
+/// The header through its table, then every command, written anew into memory.
 fn rewrite(input: &[u8], out: &mut Vec<u8>) -> Found {
     out.clear();
     let mut parser = Parser::new(input);

@@ -1,1 +1,4 @@
 pub mod Looks
+pub mod Places
+pub mod Indexes
+pub mod Definitions

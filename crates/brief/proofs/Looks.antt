@@ -1,6 +1,6 @@
 -- Reading from a byte that begins a command of the quick look: the kind that it chooses, and the command that a quick pass behind it
 -- hits, by the laws of `parser`. Assumes nothing.
-use Prim.Native.Nat.{ℕ, _+_, _-_, _^_, _≤_, _<_}
+use Prim.Native.Nat.{ℕ, _+_, _-_, _/_, _^_, _<_}
 use mathlib.Core.Logic.{_⊎_, ⊎-elim}
 use mathlib.Core.Path.{_≡_, refl, sym, ap, _∙_}
 use mathlib.Core.Bool.{true, false}
@@ -53,14 +53,29 @@ blank-other b e =
 solid-kind : (b : ℕ) (k : Kind) → kindOf b ≡ k → (Kind.Other ≡ k → ⊥) → isBlank b ≡ false
 solid-kind b k e n = by-test (isBlank b) (λ q. absurd (n (sym (blank-other b q) ∙ e))) (λ q. q)
 
--- the bytes that mean a value: letters and digits
+-- the letters that mean a value
 pub letter-value : (b : ℕ) → (b ≡ 88) ⊎ ((b ≡ 90) ⊎ ((b ≡ 120) ⊎ (b ≡ 122))) → isValue b ≡ true
 unfolding isValue has
 letter-value b k = ⊎-elim (λ e. rw e) (λ r. ⊎-elim (λ e. rw e) (λ t. ⊎-elim (λ e. rw e) (λ e. rw e) t) r) k
 
-pub digit-value : (b : ℕ) → 48 ≤ b → b < 50 → isValue b ≡ true
+-- what holds of the digits 0 and 1 holds of a byte that one test finds to be either
+pub by-digit : (P : ℕ → Type 0) → P 48 → P 49 → (b : ℕ) → b / 2 ≡ 24 → P b
+by-digit P o i b e =
+    by-test (eqb b 48) (λ q. rw (eqb-true b 48 q) o)
+    (λ q. let ne : b ≡ 48 → ⊥ = eqb-false b 48 q in let is : b ≡ 49 = omega arith in rw is i)
+
+pub digit-value : (b : ℕ) → b / 2 ≡ 24 → isValue b ≡ true
 unfolding isValue has
-digit-value b l u = by-test (eqb b 48) (λ e. rw (eqb-true b 48 e)) (λ e. let ne : b ≡ 48 → ⊥ = eqb-false b 48 e in let is : b ≡ 49 = omega arith in rw is)
+digit-value = by-digit (λ b. isValue b ≡ true) refl refl
+
+-- the bytes that choose a timestamp and a vector
+pub hash-kind : (b : ℕ) → b ≡ 35 → kindOf b ≡ Kind.Hash
+unfolding kindOf has
+hash-kind b e = rw e
+
+pub vector-kind : (b : ℕ) → (b ≡ 66) ⊎ (b ≡ 98) → kindOf b ≡ Kind.Vector
+unfolding kindOf has
+vector-kind b k = ⊎-elim (λ e. rw e) (λ e. rw e) k
 
 -- a byte that means a value chooses a scalar of it
 value-kind : (b : ℕ) → isValue b ≡ true → (v : Value) × (valueOf b ≡ ParsedValue.Is v) × (kindOf b ≡ Kind.Scalar v)
@@ -77,7 +92,7 @@ step-word : (c : Cursor) (b e x : ℕ) → isBlank b ≡ false → wordRead (byt
 unfolding wordRead wordEndRead
 step-word c b e x n = rw (← solid-read c b n, add-zero)
 
-space-word : (c : Cursor) (m e x : ℕ) → wordRead (wordRead c m 32) e x ≡ wordRead c e x
+pub space-word : (c : Cursor) (m e x : ℕ) → wordRead (wordRead c m 32) e x ≡ wordRead c e x
 unfolding wordRead
 space-word c m e x = rw add-zero
 
@@ -95,7 +110,7 @@ module _ (s : List ℕ) (at e : ℕ) (k : Kind) (m : Command) (some : at < e) (i
   here : (c : Cursor) → Valid s c → c .place ≡ at → nextFrom s c ≡ run (kindPlan k) s (byteRead c (getD s at 0))
   here c v p = chosen s c (getD s at 0) v (omega arith) (rw p) first ∙ rw is
 
-  reads-kind : Reads s at e m
+  pub reads-kind : Reads s at e m
   reads-kind =
       record {
         past = some;

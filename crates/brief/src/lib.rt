@@ -1,5 +1,7 @@
 // A quick look at the command that stands at a place, for loops that read many: timestamps and changes of scalars and vectors in their
 // usual form, told in few words. A part of such loops, which hand over valid cursors and leave the rest to `parser::next_command`.
+pub mod var;
+
 use parser::quick;
 use parser::quick::Quick;
 ghost use Prim.Native.Nat.{_≤_, _<_};

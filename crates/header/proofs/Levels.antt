@@ -1,6 +1,6 @@
 -- What a command does to what is still to come: `after m n (rest ..)` is the same before it and behind it, or is known. Then what the
--- private functions promise of an item, of the end of a scope and of what is kept at top.
-use Prim.Native.Nat.{ℕ, suc, _+_, _-_, _≤_}
+-- private functions promise of an item, of the end of a scope, of some variables, of a scope's items and of what is kept at top.
+use Prim.Native.Nat.{ℕ, suc, _+_, _-_, _≤_, _<_}
 use mathlib.Core.Path.{_≡_, refl, sym, ap, _∙_}
 use mathlib.Core.Bool.{true, false, cond, false≢true}
 use mathlib.Core.List.{List, [], _∷_}
@@ -13,12 +13,14 @@ use Rattle.command.specs.declared.Command.{Command}
 use Rattle.command.specs.declared.Refusal.{Refusal}
 use Rattle.parser.specs.All.{Commands, followed, commands}
 use Rattle.parser.specs.Next.{nextFrom}
+use Rattle.parser.specs.Plan.{varDef}
 use Rattle.parser.specs.declared.Next.{Next}
 use Rattle.parser.proofs.All.{commands-step, less-left}
+use Rattle.scope.specs.declared.Var.{Var}
 use Rattle.text.proofs.Lists.{by-test}
 use Rattle.token.specs.declared.Cursor.{Cursor}
-use Rattle.header.specs.Header.{Step, on, off, whole, inner, added, atTop, closed, move, Outcome, ending, before, follow, readRows}
-use Rattle.header.specs.Level.{Duty, scope, leaf, keeps, closes, ends, strange, duty, hasRow, itemBy, itemOf, tableBy, tableOf, closeBy, closeOf, keepBy, keepOf, final, fill, after, rest, Here, Took, Follows}
+use Rattle.header.specs.Header.{Step, on, off, whole, inner, added, atTop, closed, move, Outcome, ending, follow, readRows}
+use Rattle.header.specs.Level.{Duty, scope, leaf, keeps, closes, ends, strange, duty, hasRow, itemBy, itemOf, tableBy, tableOf, closeBy, closeOf, keepBy, keepOf, final, fill, after, rest, Here, Took, Passes, Follows}
 use Rattle.header.specs.Rows.{put, rowWords}
 use Rattle.header.specs.declared.Ended.{Ended}
 use Rattle.header.specs.declared.Header.{Header}
@@ -156,17 +158,86 @@ module _ (s : List ℕ) (cap p levels : ℕ) (c d : Cursor) (m : List ℕ) (n : 
   close-by ends e z = misplaced (λ st h. rw e)
   close-by strange e z = misplaced (λ st h. rw e)
 
-  pub close-here : hasRow (duty k) ≡ false → (x : Part) → x ≡ closeOf k d n → Follows s cap p levels c m n x m
+  close-here : hasRow (duty k) ≡ false → (x : Part) → x ≡ closeOf k d n → Follows s cap p levels c m n x m
   unfolding closeOf
   close-here z x e = rw e (close-by (duty k) refl z)
 
--- what holds from a later place of a scope holds from an earlier one
-pub onward : (s : List ℕ) (cap p levels : ℕ) (c₀ c : Cursor) (m₀ m m′ : List ℕ) (n₀ n : ℕ) (x : Part)
-    → length s - c .place ≤ length s - c₀ .place
-    → ((st : List ℕ) (h : Header) → suc (length st) + levels ≡ 64 → after m₀ n₀ (rest s cap c₀ (p ∷ st) n₀ h) ≡ after m n (rest s cap c (p ∷ st) n h))
-    → Follows s cap p levels c m n x m′ → Follows s cap p levels c₀ m₀ n₀ x m′
-onward s cap p levels c₀ c m₀ m m′ n₀ n (Part.Closed d n′) l f g = (g .0, omega (arith, g .1), λ st h w. f st h w ∙ g .2 st h w)
-onward s cap p levels c₀ c m₀ m m′ n₀ n (Part.Refused e i d n′) l f g = (g .0, λ st h w. f st h w ∙ g .1 st h w)
+-- ---- some variables
+-- none
+pub passes-none : (s : List ℕ) (cap : ℕ) (p : Parent) (c : Cursor) (m : List ℕ) (n : ℕ) → n ≤ cap → Passes s cap p c m n c n m
+passes-none s cap p c m n b = (b, omega arith, λ levels st h w. refl)
+
+-- one more
+pub passes-more : (s : List ℕ) (cap : ℕ) (p : Parent) (c₀ : Cursor) (m₀ : List ℕ) (n₀ : ℕ) (c : Cursor) (n : ℕ) (m : List ℕ) (v : Var) (d : Cursor)
+    → Passes s cap p c₀ m₀ n₀ c n m → nextFrom s c ≡ Next.Command (varDef v (v .index)) d → n < cap
+    → Passes s cap p c₀ m₀ n₀ d (n + 1) (put m n (rowWords (Row.Var p v)))
+unfolding duty
+passes-more s cap p c₀ m₀ n₀ c n m v d f q b = (
+  omega arith,
+  omega (arith, f .1, less-left s c d (varDef v (v .index)) q),
+  λ levels st h w.
+      f .2 levels st h w
+      ∙ rw (← w .1) (steps s cap m n c d st h (varDef v (v .index)) q st (Row.Var (inner st) v) (rw (lt-ltb n cap b))),
+)
+
+-- ---- within the scope at row p: with n rows in the table m at c, the rest of the reading ends as from c₀, where n₀ are in m₀
+pub record Reached (s : List ℕ) (cap p levels : ℕ) (c₀ : Cursor) (m₀ : List ℕ) (n₀ : ℕ) (c : Cursor) (m : List ℕ) (n : ℕ) : Type 0 where
+  pub room : n ≤ cap
+  pub ahead : length s - c .place ≤ length s - c₀ .place
+  pub same : (st : List ℕ) (h : Header) → suc (length st) + levels ≡ 64
+      → after m₀ n₀ (rest s cap c₀ (p ∷ st) n₀ h) ≡ after m n (rest s cap c (p ∷ st) n h)
+
+pub reached-start : (s : List ℕ) (cap p levels : ℕ) (c : Cursor) (m : List ℕ) (n : ℕ) → n ≤ cap → Reached s cap p levels c m n c m n
+reached-start s cap p levels c m n b = record { room = b; ahead = omega arith; same = λ st h w. refl }
+
+module _ {s : List ℕ} {cap p levels n₀ n : ℕ} {c₀ c : Cursor} {m₀ m : List ℕ} (i : Reached s cap p levels c₀ m₀ n₀ c m n) where
+  abbrev Item-here : Item → List ℕ → Type 0
+  Item-here = Took s cap (Parent.Of (record { 0 = p })) levels c m n
+
+  abbrev On : Cursor → List ℕ → ℕ → Type 0
+  On = Reached s cap p levels c₀ m₀ n₀
+
+  abbrev Ends : Part → List ℕ → Type 0
+  Ends = Follows s cap p levels c₀ m₀ n₀
+
+  -- behind some variables, a leaf, a scope
+  pub reached-vars : (d : Cursor) (n′ : ℕ) (m′ : List ℕ) → Passes s cap (Parent.Of (record { 0 = p })) c m n d n′ m′ → On d m′ n′
+  reached-vars d n′ m′ f = record {
+    room = f .0;
+    ahead = omega (arith, f .1, i .ahead);
+    same = λ st h w. i .same st h w ∙ f .2 levels (p ∷ st) h (w, refl);
+  }
+
+  pub reached-leaf : (d : Cursor) (m′ : List ℕ) → Item-here (Item.Leaf d) m′ → On d m′ (n + 1)
+  reached-leaf d m′ g = record {
+    room = omega (arith, g .0);
+    ahead = omega (arith, g .1, i .ahead);
+    same = λ st h w. i .same st h w ∙ g .2 (p ∷ st) h (w, refl);
+  }
+
+  pub reached-scope : (d e : Cursor) (n′ : ℕ) (m′ m″ : List ℕ) → Item-here (Item.Scope d) m′
+      → Follows s cap n (levels - 1) d m′ (n + 1) (Part.Closed e n′) m″ → On e m″ n′
+  reached-scope d e n′ m′ m″ g f = record {
+    room = f .0;
+    ahead = omega (arith, g .1 .1, f .1, i .ahead);
+    same = λ st h w. i .same st h w ∙ g .1 .2 (p ∷ st) h (w, refl) ∙ f .2 (p ∷ st) h (omega (arith, g .0, w));
+  }
+
+  -- the end: `$upscope` or a command that may not stand here, a refusal, a refusal within a scope
+  pub ends-other : (k : Command) (d : Cursor) (m′ : List ℕ) (x : Part) → Item-here (Item.Other k d) m′ → x ≡ closeOf k d n → Ends x m′
+  ends-other k d m′ x g e = rw (g .0) (onward x (close-here s cap p levels c d m n (i .room) k (g .1) (g .2) x e))
+    where
+      onward : (y : Part) → Follows s cap p levels c m n y m → Ends y m
+      onward (Part.Closed a b) f = (f .0, omega (arith, f .1, i .ahead), λ st h w. i .same st h w ∙ f .2 st h w)
+      onward (Part.Refused r l a b) f = (f .0, λ st h w. i .same st h w ∙ f .1 st h w)
+
+  pub ends-refused : (r : Refusal) (l : ℕ) (d : Cursor) (m′ : List ℕ) → Item-here (Item.Refused r l d) m′ → Ends (Part.Refused r l d n) m′
+  ends-refused r l d m′ g = (i .room, λ st h w. i .same st h w ∙ g (p ∷ st) h (w, refl))
+
+  pub ends-within : (d : Cursor) (r : Refusal) (l : ℕ) (e : Cursor) (n′ : ℕ) (m′ m″ : List ℕ) → Item-here (Item.Scope d) m′
+      → Follows s cap n (levels - 1) d m′ (n + 1) (Part.Refused r l e n′) m″ → Ends (Part.Refused r l e n′) m″
+  ends-within d r l e n′ m′ m″ g f =
+      (f .0, λ st h w. i .same st h w ∙ g .1 .2 (p ∷ st) h (w, refl) ∙ f .1 (p ∷ st) h (omega (arith, g .0, w)))
 
 -- ---- what is kept at top
 abbrev pub Keeps : List ℕ → ℕ → Cursor → Cursor → List ℕ → ℕ → Header → Move → Type 0

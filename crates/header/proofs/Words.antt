@@ -3,6 +3,7 @@ use Prim.Native.Nat.{ℕ, zero, suc, _+_, _-_, _*_, _^_, _≤_, _<_}
 use mathlib.Core.Path.{_≡_, refl, sym, _∙_}
 use mathlib.Core.Bool.{Bool, true, false, _&&_, false≢true}
 use mathlib.Core.List.{List, [], _∷_, append-assoc}
+use native.Mathlib.Decide.{decLt}
 use native.Mathlib.Omega.{arith}
 use borrow.Author.Tests.{lt-ltb, le-ltb, ltb-true, eqb-true, eqb-false}
 use lib.Dec.{T, eqb, ltb}
@@ -29,8 +30,19 @@ pub signed-is : (w : ℕ) → toZ w32 w ≡ signedOf w
 unfolding signedOf
 signed-is w = by-test (ltb w (2 ^ 31)) (λ e. rw e) (λ e. rw e)
 
-pub signed-held : (w : ℕ) → w < 4294967296 → held w32 (signedOf w) ≡ signedOf w
-signed-held w h = toZ-ofZ w32 (signedOf w) (rw (← signed-is w) (toZ-fits w32 w (record { fits = h })))
+-- a word over 32 bits
+pub signed-over : (w : ℕ) → 4294967296 ≤ w → signedOf w ≡ negsuc 0
+unfolding signedOf
+signed-over w h =
+    let e : 2 ^ 32 - suc w ≡ 0 = omega arith in
+    rw (le-ltb w (2 ^ 31) (omega arith), e)
+
+pub signed-held : (w : ℕ) → held w32 (signedOf w) ≡ signedOf w
+signed-held w = either (decLt w 4294967296)
+  where
+    either : Dec (w < 4294967296) → held w32 (signedOf w) ≡ signedOf w
+    either (yes h) = toZ-ofZ w32 (signedOf w) (rw (← signed-is w) (toZ-fits w32 w (record { fits = h })))
+    either (no h) = rw (signed-over w (omega arith))
 
 module _ (w : ℕ) (lo : 2147483648 ≤ w) (hi : w < 4294967296) where
   lowered : toZ w64 w -ℤ pos 4294967296 ≡ negsuc (4294967296 - suc w)

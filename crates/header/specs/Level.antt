@@ -152,6 +152,12 @@ Took s cap p levels c m n (Item.Other k d) m′ = (m′ ≡ m) × (nextFrom s c 
 Took s cap p levels c m n (Item.Refused e l d) m′ =
     (st : List ℕ) (h : Header) → Here levels p st → after m n (rest s cap c st n h) ≡ final h (Ended.Refused e l) d n m′
 
+-- ---- some variables: the reading goes on behind them in the same scopes, with n′ rows in the table m′
+abbrev pub Passes : List ℕ → ℕ → Parent → Cursor → List ℕ → ℕ → Cursor → ℕ → List ℕ → Type 0
+Passes s cap p c m n d n′ m′ =
+    (n′ ≤ cap) × (length s - d .place ≤ length s - c .place)
+    × ((levels : ℕ) (st : List ℕ) (h : Header) → Here levels p st → after m n (rest s cap c st n h) ≡ after m′ n′ (rest s cap d st n′ h))
+
 -- ---- the items of the scope at row p
 abbrev pub Follows : List ℕ → ℕ → ℕ → ℕ → Cursor → List ℕ → ℕ → Part → List ℕ → Type 0
 Follows s cap p levels c m n (Part.Closed d n′) m′ =

@@ -4,6 +4,7 @@ mod find;
 mod rows;
 pub mod types;
 
+use brief::var::Variable;
 use command::Command;
 use command::Refusal;
 use idcode::IdCode;
@@ -18,7 +19,7 @@ ghost use mathlib.Core.Path.{_≡_};
 ghost use Prim.Native.Nat.{_/_, min, _*_, _≤_, _<_};
 ghost use lib.ListN.{length};
 ghost use Rattle.header.specs.Header.{headerOf, answerOf, filled, nothing as nothingKept};
-ghost use Rattle.header.specs.Level.{Took, Follows, itemOf, tableOf, varOf, closeOf, keepOf};
+ghost use Rattle.header.specs.Level.{Took, Passes, Follows, itemOf, tableOf, varOf, closeOf, keepOf};
 pub use find::FoundRow;
 pub use find::find_scope;
 pub use find::find_var;
@@ -27,8 +28,11 @@ pub use rows::Row;
 pub use rows::RowNumber;
 pub use rows::TOP;
 pub use rows::WORDS;
+pub use rows::all_zero;
 pub use rows::first_word;
 pub use rows::index_form;
+pub use rows::index_of;
+pub use rows::is_index;
 pub use rows::parent_word;
 pub use rows::row_at;
 pub use rows::row_of;
@@ -77,6 +81,12 @@ enum Item {
     Scope(Cursor),
     Other(Command, Cursor),
     Refused(Refusal, u64, Cursor),
+}
+
+// Where reading stands, and the count of rows.
+struct Taken {
+    cursor: Cursor,
+    count: usize,
 }
 
 // What a command that gives no row does at top.
@@ -178,7 +188,9 @@ fn parse_scope(
     let mut n = made;
     let of = Parent::Of(RowNumber(parent));
     loop {
-        match take_item(input, cur, rows, n, cap, of, levels) {
+        let vars = take_vars(input, cur, rows, n, cap, of);
+        n = vars.count;
+        match take_item(input, vars.cursor, rows, n, cap, of, levels) {
             Item::Leaf(d) => {
                 cur = d;
                 n += 1;
@@ -200,6 +212,44 @@ fn parse_scope(
             }
         }
     }
+}
+
+// The variables in their usual form that stand next are told by quick looks, and their rows stored.
+fn take_vars(
+    input: &[u8],
+    from: Cursor,
+    rows: &mut [u64],
+    made: usize,
+    cap: usize,
+    parent: Parent,
+) -> Taken
+    requires { ⌜ (made ≤ cap) × (cap ≤ 4096) × (10 * cap ≤ length (now rows)) ⌝ }
+    ensures { λ r. ⌜ Passes (now (input .entry)) cap parent from (now (rows .entry)) made (r .cursor) (r .count) (now (rows .exit)) ⌝ }
+{
+    let mut cur = from;
+    let mut n = made;
+    if !parser::placed(input, from) {
+        return so_far(cur, n);
+    }
+    while n < cap {
+        match brief::var::look(input, cur.place) {
+            Variable::Is(v, end) => {
+                rows::put_var(rows, n, parent, v);
+                cur = token::word_read(cur, end, input[end]);
+                n += 1;
+            }
+            Variable::Other => {
+                return so_far(cur, n);
+            }
+        }
+    }
+    so_far(cur, n)
+}
+
+fn so_far(cursor: Cursor, count: usize) -> Taken
+    ensures { λ r. ⌜ r ≡ record { cursor = cursor; count = count } ⌝ }
+{
+    Taken { cursor, count }
 }
 
 // Reads a command and stores the row that it gives.

@@ -107,7 +107,7 @@ fn var_row(p: u64, t: u64, w: u64, c: u64, name: Text, f: u64, a: u64, b: u64) -
 }
 
 // Whether the words that a kind does not use are 0.
-fn all_zero(t: u64, w: u64, c: u64, f: u64, a: u64, b: u64) -> bool
+pub fn all_zero(t: u64, w: u64, c: u64, f: u64, a: u64, b: u64) -> bool
     ensures { λ r. ⌜ r ≡ allZero (t ∷ w ∷ c ∷ f ∷ a ∷ b ∷ []) ⌝ }
 {
     if t != 0 {
@@ -161,7 +161,7 @@ pub fn parent_word(p: Parent) -> u64
     }
 }
 
-fn is_index(form: u64, a: u64, b: u64) -> bool
+pub fn is_index(form: u64, a: u64, b: u64) -> bool
     ensures { λ r. ⌜ r ≡ isIndex form a b ⌝ }
 {
     match form {
@@ -172,8 +172,7 @@ fn is_index(form: u64, a: u64, b: u64) -> bool
     }
 }
 
-fn index_of(form: u64, a: u64, b: u64) -> ReferenceIndex
-    requires { ⌜ (a < 4294967296) × (b < 4294967296) ⌝ }
+pub fn index_of(form: u64, a: u64, b: u64) -> ReferenceIndex
     ensures { λ r. ⌜ r ≡ indexOf form a b ⌝ }
 {
     match form {
@@ -183,13 +182,15 @@ fn index_of(form: u64, a: u64, b: u64) -> ReferenceIndex
     }
 }
 
-// A number of 32 bits, by two's complement.
+// A number of 32 bits, by two's complement; of a larger word, which is none, that of the largest of 32 bits.
 fn signed(w: u64) -> i32
-    requires { ⌜ w < 4294967296 ⌝ }
     ensures { λ r. ⌜ r ≡ signedOf w ⌝ }
 {
     if w < 2147483648 {
         return w as i32;
+    }
+    if 4294967295 < w {
+        return 0 - 1;
     }
     ((w as i64) - 4294967296) as i32
 }

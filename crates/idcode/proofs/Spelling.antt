@@ -1,5 +1,5 @@
 -- The steps of writing an id text from its first byte, over the definitions of specs/Id.antt. Assumes nothing.
-use Prim.Native.Nat.{ℕ, zero, suc, _+_, _-_, _/_, _%_, _^_, _≤_, _<_}
+use Prim.Native.Nat.{ℕ, zero, suc, _+_, _-_, _*_, _/_, _%_, _^_, _≤_, _<_}
 use mathlib.Core.Path.{_≡_, refl, _∙_, ap}
 use mathlib.Core.List.{List, [], _∷_}
 use native.Mathlib.Nat.{le-refl}
@@ -15,11 +15,12 @@ use Rattle.idcode.proofs.Laws.{text-room, text-length}
 
 -- n bytes of the text of code are written, and what is left of it is the text of rest
 pub record Spelling (code rest n : ℕ) : Type 0 where
+  pub small : rest < 2 ^ 64
   pub short : length (idText code) ≤ 10
   pub left : drop n (idText code) ≡ idText rest
 
 pub spell-start : (code : ℕ) → code < 2 ^ 64 → Spelling code code 0
-spell-start code h = record { short = text-length code h .1; left = refl }
+spell-start code h = record { small = h; short = text-length code h .1; left = refl }
 
 -- the text of rest: its first byte and the rest
 text-first : (rest : ℕ) → idText rest ≡ (33 + rest % 94) ∷ textOf rest (rest / 94)
@@ -62,7 +63,7 @@ module _ (code rest n : ℕ) (s : Spelling code rest n) where
       omega (arith, none, length-drop (n + 1) (idText code))
 
   pub spell-more : 94 ≤ rest → Spelling code (rest / 94 - 1) (n + 1)
-  spell-more h = record { short = s .short; left = after ∙ text-next rest h }
+  spell-more h = record { small = omega (arith, s .small); short = s .short; left = after ∙ text-next rest h }
 
   -- into a row
   pub row-next : {bytes : List ℕ} → Row (idText code) bytes n → Row (idText code) (set bytes n (33 + rest % 94)) (n + 1)
@@ -72,10 +73,14 @@ module _ (code rest n : ℕ) (s : Spelling code rest n) where
       → record { bytes = set bytes n (33 + rest % 94); len = n + 1 } ≡ spelled (idText code)
   row-done r h = row-end (idText code) _ (n + 1) (row-next r) (end h) ∙ ap spelled (take-all 32 (idText code) (omega (arith, s .short)))
 
-  -- into a buffer
-  pub copy-next : {old out : List ℕ} → Copied (idText code) old out n → Copied (idText code) old (set out n (33 + rest % 94)) (n + 1)
-  copy-next r = rw here at (copy-more (idText code) _ _ n r inside)
+  -- into a buffer, where the byte is what a division leaves
+  left-over : 33 + (rest - 94 * (rest / 94)) ≡ 33 + rest % 94
+  left-over = omega arith
+
+  pub copy-next : {old out : List ℕ} → Copied (idText code) old out n
+      → Copied (idText code) old (set out n (33 + (rest - 94 * (rest / 94)))) (n + 1)
+  copy-next r = rw left-over (rw here at (copy-more (idText code) _ _ n r inside))
 
   pub copied : {old out : List ℕ} → Copied (idText code) old out n → rest < 94
-      → (Placed.Count (n + 1) ≡ putAnswer (idText code) old) × (set out n (33 + rest % 94) ≡ putBytes (idText code) old)
+      → (Placed.Count (n + 1) ≡ putAnswer (idText code) old) × (set out n (33 + (rest - 94 * (rest / 94))) ≡ putBytes (idText code) old)
   copied r h = copy-done (idText code) _ _ (n + 1) (copy-next r) (end h)

@@ -111,18 +111,20 @@ impl IdCode {
     pub fn put(self, out: &mut [u8]) -> Placed
         ensures { λ r. ⌜ (r ≡ putAnswer (idText (self .0)) (now (out .entry))) × (now (out .exit) ≡ putBytes (idText (self .0)) (now (out .entry))) ⌝ }
     {
-        if out.len() < self.len() {
+        // No text of a code has more than ten bytes.
+        if out.len() < 10 && out.len() < self.len() {
             return Placed::NoRoom;
         }
         let mut rest = self.0;
         let mut n: usize = 0;
         loop {
-            out[n] = 33 + (rest % 94) as u8;
+            let more = rest / 94;
+            out[n] = 33 + (rest - 94 * more) as u8;
             n += 1;
-            if rest < 94 {
+            if more == 0 {
                 return Placed::Count(n);
             }
-            rest = rest / 94 - 1;
+            rest = more - 1;
         }
     }
 }

@@ -91,14 +91,17 @@ fn glance(input: &[u8], at: usize) -> Brief
     requires { ⌜ length (now input) ≤ 4294967295 ⌝ }
     ensures { λ r. ⌜ Tells (now (input .entry)) at r ⌝ }
 {
-    if input.len() <= at {
+    if input.len() <= at + 2 {
         return Brief::Other;
     }
     let b = input[at];
+    if b / 2 == 24 {
+        return brief::scalar(input, at);
+    }
     match b {
         b'#' => brief::time(input, at),
-        b'0' | b'1' | b'x' | b'X' | b'z' | b'Z' => brief::scalar(input, at),
-        b'b' | b'B' => brief::vector(input, at),
+        b'x' | b'X' | b'z' | b'Z' => brief::scalar(input, at),
+        b'b' | b'B' => brief::vector(&input[0..], at),
         _ => Brief::Other,
     }
 }
@@ -132,7 +135,7 @@ fn look_quick(input: &[u8], c: Cursor, code: IdCode) -> Look
             ),
             token::word_read(c, end, input[end]),
         ),
-        Brief::Other => look_plain(input, again(c), code),
+        Brief::Other => look_plain(&input[0..], again(c), code),
     }
 }
 

@@ -95,8 +95,11 @@ module _ (z : ℤ) (f : SFits w32 z) (e : leZ (pos 0) (held w32 z) ≡ false) wh
   pub write-size : T (nonNeg size) × Fits w64 (natAbs size)
   write-size = rw size-is (below .1, below .2)
 
+  pub write-digits : bytes "-" ++ decimalOf (natAbs size) ≡ signedOf z
+  write-digits = rw size-is (below .3)
+
   pub write-below : (a b r : Spelled) → a ≡ spelled (bytes "-") → b ≡ spelled (decimalOf (natAbs size)) → r ≡ spelled (take 32 (textIn a ++ textIn b))
       → r ≡ spelled (signedOf z)
   write-below a b r p q j =
-      let t : bytes "-" ++ decimalOf (natAbs size) ≡ signedOf z = rw size-is (below .3) in
-      (rw (p, q) at j) ∙ joins (bytes "-") (decimalOf (natAbs size)) (omega (arith, ap length t, signed-short z f)) ∙ ap spelled t
+      (rw (p, q) at j) ∙ joins (bytes "-") (decimalOf (natAbs size)) (omega (arith, ap length write-digits, signed-short z f))
+      ∙ ap spelled write-digits

@@ -1,7 +1,7 @@
 -- Laws of the quick passes: bytes of a word that are passed one by one, and what its end tells. Assumes nothing.
 use Prim.Native.Nat.{ℕ, suc, _+_, _-_, _*_, _^_, _≤_, _<_}
 use mathlib.Core.Path.{_≡_, refl, sym, ap, _∙_}
-use mathlib.Core.Bool.{true}
+use mathlib.Core.Bool.{true, cond}
 use mathlib.Core.List.{List, [], _∷_}
 use native.Mathlib.Nat.{add-zero, mul-zero, mul-add, mul-assoc, mul-comm, pow-suc, mul-le-mul-right, pow-le-pow-right}
 use native.Mathlib.Omega.{arith}
@@ -10,6 +10,7 @@ use lib.ListN.{length, drop, getD}
 use Rattle.text.specs.Bytes.{isBlank}
 use Rattle.text.specs.Utf8.{validUtf8}
 use Rattle.text.proofs.Blanks.{solid}
+use Rattle.text.proofs.Lists.{by-test}
 use Rattle.text.proofs.WellFormed.{ascii-first, empty-valid}
 use Rattle.number.specs.Decimal.{numberFrom, digitsBelow, parseBelow}
 use Rattle.number.specs.declared.Number.{Number}
@@ -19,7 +20,8 @@ use Rattle.idcode.specs.declared.Parsed.{Parsed}
 use Rattle.idcode.proofs.Laws.{sum-cons, id-byte, tail-good}
 use Rattle.token.specs.Read.{word}
 use Rattle.token.proofs.Words.{word-step, word-stop}
-use Rattle.parser.specs.Quick.{Whole}
+use Rattle.parser.specs.Quick.{Whole, QuickNumber}
+use Rattle.parser.specs.declared.quick.Quick.{Quick}
 
 -- ---- the bytes from `at` up to i belong to the word, and are ASCII
 pub record Passed (s : List ℕ) (at i : ℕ) : Type 0 where
@@ -91,6 +93,10 @@ module _ (s : List ℕ) (at i v : ℕ) (d : DigitsTo s at i v) where
     passed-end s at i (d .passed) h (d .some) (omega (arith, d .few)) e,
     d .goes ∙ rw (word-stop s i h e) (from-end (2 ^ 64) v (omega (arith, digits-fit))),
   )
+
+  -- a byte that is no digit ends them, or it is a miss
+  pub digits-judged : i < length s → QuickNumber s at (cond (isBlank (getD s i 0)) (Quick.Hit v i) Quick.Miss)
+  digits-judged h = by-test (isBlank (getD s i 0)) (λ e. rw e (digits-end h e)) (λ e. rw e tt)
 
 -- ---- ids
 pub record IdTo (s : List ℕ) (at i sum power : ℕ) : Type 0 where
@@ -172,3 +178,10 @@ module _ (s : List ℕ) (at i sum power : ℕ) (d : IdTo s at i sum power) where
         passed-end s at i (d .passed) h (d .some) (omega (arith, d .few)) e,
         means (word (drop at s)) sum (d .ids ∙ rw w) total (d .positive) sum-fits,
       )
+
+-- an id of one byte
+pub id-one : (s : List ℕ) (at : ℕ) → at + 1 < length s → 33 ≤ getD s at 0 → getD s at 0 ≤ 126 → isBlank (getD s (at + 1) 0) ≡ true
+    → Whole s at (at + 1) × (parseId (word (drop at s)) ≡ Parsed.Code (record { 0 = getD s at 0 - 33 }))
+id-one s at h l u e =
+    let less : getD s at 0 - 32 - 1 ≡ getD s at 0 - 33 = omega arith in
+    rw less at (id-end s at (at + 1) (getD s at 0 - 32) 94 (id-start s at (omega arith) l u) h e)

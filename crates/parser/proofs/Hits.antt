@@ -1,5 +1,5 @@
 -- Where a quick pass hits at the cursor, the plain way reads the same: the word, the cursor behind its blank, and what it means. Assumes nothing.
-use Prim.Native.Nat.{ℕ, _+_, _-_, _^_, _<_}
+use Prim.Native.Nat.{ℕ, _+_, _-_, _^_, _≤_, _<_}
 use mathlib.Core.Path.{_≡_, refl, sym, ap, _∙_}
 use mathlib.Core.Bool.{true, false, cond}
 use mathlib.Core.List.{List}
@@ -7,10 +7,11 @@ use native.Mathlib.Nat.{add-zero, le-refl}
 use native.Mathlib.Omega.{arith}
 use borrow.Author.Tests.{ltb-true}
 use lib.Dec.{ltb}
-use lib.ListN.{length, getD, length-take}
+use lib.ListN.{length, drop, getD, length-take}
 use lib.Seq.{take-all, getD-drop}
 use Rattle.text.specs.Bytes.{isBlank}
 use Rattle.text.specs.Texts.{part}
+use Rattle.text.specs.Utf8.{validUtf8}
 use Rattle.text.specs.declared.Text.{Text}
 use Rattle.text.proofs.Lists.{cond-both}
 use Rattle.number.specs.Decimal.{parseBelow}
@@ -41,13 +42,23 @@ ends-true s at e h =
     let q = cond-both (ltb e (length s)) (isBlank (getD s e 0)) (p .1) in
     (ltb-true at e (p .0), ltb-true e (length s) (q .0), q .1)
 
-module _ (s : List ℕ) (c : Cursor) (v : Valid s c) (e : ℕ) (w : Whole s (c .place) e) where
-  abbrev t : Text
-  t = record { start = c .place; len = e - c .place }
+-- ---- a word at the cursor
+-- the word that starts at q is UTF-8 and ends before e, where a blank stands
+pub record Lone (s : List ℕ) (q e : ℕ) : Type 0 where
+  pub some : q < e
+  pub inside : e < length s
+  pub long : q + length (word (drop q s)) ≡ e
+  pub ended : isBlank (getD s e 0) ≡ true
+  pub text : validUtf8 (word (drop q s)) ≡ true
 
-  abbrev d : Cursor
-  d = wordRead c e (getD s e 0)
+pub whole-lone : {s : List ℕ} {q e : ℕ} → Whole s q e → Lone s q e
+whole-lone w = record { some = w .some; inside = w .inside; long = w .long; ended = w .ended; text = w .text }
 
+abbrev pub textAt : ℕ → ℕ → Text
+textAt q e = record { start = q; len = e - q }
+
+-- within a limit
+module _ {s : List ℕ} {c : Cursor} (v : Valid s c) {e : ℕ} (w : Lone s (c .place) e) (n : ℕ) (few : e ≤ c .place + n) where
   -- no blank stands at the cursor
   first : isBlank (getD s (c .place) 0) ≡ false
   first =
@@ -55,24 +66,37 @@ module _ (s : List ℕ) (c : Cursor) (v : Valid s c) (e : ℕ) (w : Whole s (c .
       let p : getD (rest s c) 0 0 ≡ getD s (c .place) 0 = getD-drop (c .place) s 0 0 ∙ ap (λ (i : ℕ). getD s i 0) (add-zero (c .place)) in
       ap isBlank (sym p) ∙ k
 
-  long : e ≡ c .place + length (firstPassed (most 32) (rest s c))
+  long : e ≡ c .place + length (firstPassed (most n) (rest s c))
   unfolding firstPassed
-  long = omega (arith, length-take 32 (word (rest s c)), w .few, w .long)
+  long = omega (arith, length-take n (word (rest s c)), w .long)
 
-  here : token s c (most 32) ≡ Token.Word t d
+  pub word-here : token s c (most n) ≡ Token.Word (textAt (c .place) e) (wordRead c e (getD s e 0))
   unfolding token
-  here =
+  word-here =
       let k : c .place < length s = omega (arith, w .some, w .inside) in
-      rw (skip-stop s c k first) (sym (here-text s c (most 32) e v long (w .inside) (w .ended)))
+      rw (skip-stop s c k first) (sym (here-text s c (most n) e v long (w .inside) (w .ended)))
+
+  pub word-part : part s (textAt (c .place) e) ≡ word (rest s c)
+  unfolding part
+  word-part =
+      let k : e - c .place ≡ length (word (rest s c)) = omega (arith, w .long) in
+      rw k
+      (sym (word-front (rest s c) (length (word (rest s c))) (le-refl _))
+      ∙ take-all (length (word (rest s c))) (word (rest s c)) (le-refl _))
+
+-- ---- a hit
+module _ (s : List ℕ) (c : Cursor) (v : Valid s c) (e : ℕ) (w : Whole s (c .place) e) where
+  abbrev t : Text
+  t = textAt (c .place) e
+
+  abbrev d : Cursor
+  d = wordRead c e (getD s e 0)
 
   bytes : word (rest s c) ≡ part s t
-  unfolding part
-  bytes =
-      let k : e - c .place ≡ length (word (rest s c)) = omega (arith, w .long) in
-      rw k (sym (take-all (length (word (rest s c))) (word (rest s c)) (le-refl _)) ∙ word-front (rest s c) (length (word (rest s c))) (le-refl _))
+  bytes = sym (word-part v (whole-lone w) 32 (w .few))
 
   judged : wordFrom s c (most 32) ≡ Token.Word t d
-  judged = sym (word-good s c (most 32) t d (word (rest s c)) here bytes (w .text))
+  judged = sym (word-good s c (most 32) t d (word (rest s c)) (word-here v (whole-lone w) 32 (w .few)) bytes (w .text))
 
   -- the answers, where `next` is the cursor that the code makes
   module _ (next : Cursor) (n : next ≡ d) where

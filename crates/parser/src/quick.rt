@@ -1,8 +1,10 @@
 // Quick passes: a token that stands at the cursor, judged in one pass as it is read. A hit tells its value and where the blank
 // stands that ends it. Whatever is unusual is a miss, and is left to the plain way of part.rt and of `token`.
-ghost use Prim.Native.Nat.{_≤_};
+ghost use Prim.Native.Nat.{_+_, _-_, _≤_, _<_};
+ghost use mathlib.Core.Bool.{cond};
 ghost use mathlib.Core.Path.{_≡_};
-ghost use lib.ListN.{length};
+ghost use lib.ListN.{length, getD};
+ghost use Rattle.text.specs.Bytes.{isBlank};
 ghost use Rattle.parser.specs.Quick.{QuickNumber, QuickId, endsAt};
 
 pub enum Quick {
@@ -39,25 +41,34 @@ pub fn quick_number(input: &[u8], at: usize) -> Quick
     if 57 < first {
         return Quick::Miss;
     }
-    let mut v = wide(first - 48);
+    let mut v = wide(first) - 48;
     let mut i = at + 1;
-    loop {
-        if stop <= i {
-            return Quick::Miss;
+    while i < stop {
+        let d = digit(input[i]);
+        if 9 < d {
+            return number_end(input[i], v, i);
         }
-        let b = input[i];
-        if b < 48 {
-            if text::whitespace_byte(b) {
-                return Quick::Hit(v, i);
-            }
-            return Quick::Miss;
-        }
-        if 57 < b {
-            return Quick::Miss;
-        }
-        v = v * 10 + wide(b - 48);
+        v = v * 10 + d;
         i += 1;
     }
+    Quick::Miss
+}
+
+// What a digit means; more than 9 where the byte is none.
+fn digit(b: u8) -> u64
+    ensures { λ r. ⌜ (r ≤ 9 → (48 ≤ b) × (b ≤ 57) × (r ≡ b - 48)) ⌝ }
+{
+    std::num::wrapping_sub_u64(wide(b), 48)
+}
+
+// The number v, if the byte b at i ends it.
+fn number_end(b: u8, v: u64, i: usize) -> Quick
+    ensures { λ r. ⌜ r ≡ cond (isBlank b) (Quick.Hit v i) Quick.Miss ⌝ }
+{
+    if text::whitespace_byte(b) {
+        return Quick::Hit(v, i);
+    }
+    Quick::Miss
 }
 
 // The id from `at` up to a blank, of 9 bytes at most.
@@ -76,18 +87,28 @@ pub fn quick_id(input: &[u8], at: usize) -> Quick
     if 126 < first {
         return Quick::Miss;
     }
-    let mut sum = wide(first - 32);
+    // Most ids have one byte.
+    if text::whitespace_byte(input[at + 1]) {
+        return Quick::Hit(wide(first) - 33, at + 1);
+    }
+    long_id(input, at)
+}
+
+// The same of an id that has more than one byte.
+fn long_id(input: &[u8], at: usize) -> Quick
+    requires { ⌜ (at + 1 < length (now input)) × (length (now input) ≤ 4294967295) ⌝ }
+    requires { ⌜ (33 ≤ getD (now input) at 0) × (getD (now input) at 0 ≤ 126) ⌝ }
+    ensures { λ r. ⌜ QuickId (now (input .entry)) at r ⌝ }
+{
+    let mut sum = wide(input[at]) - 32;
     let mut power: u64 = 94;
     let mut i = at + 1;
-    loop {
-        if input.len() <= i {
-            return Quick::Miss;
-        }
+    while i < input.len() {
         let b = input[i];
+        if text::whitespace_byte(b) {
+            return Quick::Hit(sum - 1, i);
+        }
         if b < 33 {
-            if text::whitespace_byte(b) {
-                return Quick::Hit(sum - 1, i);
-            }
             return Quick::Miss;
         }
         if 126 < b {
@@ -96,10 +117,11 @@ pub fn quick_id(input: &[u8], at: usize) -> Quick
         if at + 9 <= i {
             return Quick::Miss;
         }
-        sum = sum + wide(b - 32) * power;
+        sum = sum + (wide(b) - 32) * power;
         power = power * 94;
         i += 1;
     }
+    Quick::Miss
 }
 
 // Whether some bytes stand from `at` to `end`, and a blank behind them.

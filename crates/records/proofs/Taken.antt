@@ -11,17 +11,36 @@ use Rattle.command.specs.declared.Refusal.{Refusal}
 use Rattle.parser.specs.All.{followed, commands}
 use Rattle.parser.specs.Next.{isGood, nextFrom}
 use Rattle.parser.specs.declared.Next.{Next}
+use Rattle.parser.proofs.Ahead.{command-past}
 use Rattle.parser.proofs.All.{commands-step}
+use Rattle.brief.specs.Brief.{Reads}
+use Rattle.token.specs.Read.{Valid}
 use Rattle.token.specs.declared.Cursor.{Cursor}
 use Rattle.records.specs.Records.{recordWords, wordsOf, put}
-use Rattle.records.specs.Read.{Outcome, ends, after, taken, readOf, answerOf, filled, stepOf, tableOf}
+use Rattle.records.specs.Read.{Outcome, ends, after, taken, readOf, answerOf, filled, stepOf, behind, Inside, tableOf}
 use Rattle.records.specs.declared.Ended.{Ended}
 use Rattle.records.specs.declared.ReadAnswer.{ReadAnswer}
 use Rattle.records.specs.declared.Step.{Step}
 use Rattle.records.proofs.Table.{filled-length, put-next}
 
--- what a step tells of the answer that it was made of
+-- ---- one step: a command that a quick look told, or the plain one
+module _ (s : List ℕ) (c : Cursor) where
+  pub quick-step : Valid s c → (e : ℕ) (k : Command) → Reads s (c .place) e k → (table t : List ℕ) (n : ℕ) → t ≡ put table n (recordWords k)
+      → (behind s c (Step.Quick e) ≡ stepOf (nextFrom s c)) × Inside s (Step.Quick e) × (t ≡ tableOf (nextFrom s c) table n)
+  quick-step v e k h table t n q = rw (h .reads c v refl) (refl, h .inside, q)
+
+  plain-told : (x : Next) → (behind s c (stepOf x) ≡ stepOf x) × Inside s (stepOf x)
+  plain-told (Next.Command k d) = (refl, tt)
+  plain-told (Next.Refused e line d) = (refl, tt)
+  plain-told (Next.Done d) = (refl, tt)
+
+  pub plain-step : (r : Step) (table t : List ℕ) (n : ℕ) → (r ≡ stepOf (nextFrom s c)) × (t ≡ tableOf (nextFrom s c) table n)
+      → (behind s c r ≡ stepOf (nextFrom s c)) × Inside s r × (t ≡ tableOf (nextFrom s c) table n)
+  plain-step r table t n h = let q = plain-told (nextFrom s c) in rw (h .0) (q .0, q .1, h .1)
+
+-- what a step tells of the answer that it was made of; of a quick one, its `behind` tells
 abbrev pub Stepped : Next → Step → Type 0
+Stepped x (Step.Quick e) = Unit {0}
 Stepped x (Step.Read d) = (k : Command) × (x ≡ Next.Command k d)
 Stepped x (Step.Ends d e) =
     ((s : List ℕ) (c : Cursor) (m : ℕ) → taken (suc m) c (followed (commands s) x) ≡ ends d e) × ((t : List ℕ) (n : ℕ) → tableOf x t n ≡ t)
@@ -32,8 +51,8 @@ stepped (Next.Command k d) = (k, refl)
 stepped (Next.Refused e line d) = (λ s c m. refl, λ t n. refl)
 stepped (Next.Done d) = (λ s c m. refl, λ t n. refl)
 
-pub told : (x : Next) (r q : Step) → r ≡ stepOf x → r ≡ q → Stepped x q
-told x r q e h = rw (sym e ∙ h) at (stepped x)
+pub told : (s : List ℕ) (c : Cursor) (x : Next) (r q : Step) → behind s c r ≡ stepOf x → r ≡ q → Stepped x (behind s c q)
+told s c x r q e h = rw (sym e ∙ ap (behind s c) h) at (stepped x)
 
 -- ---- reading from c₀ into the table t₀, where the cursor is c and n commands are made
 abbrev ahead : ℕ → List ℕ → Cursor → Outcome
@@ -60,7 +79,7 @@ module _ (s : List ℕ) (c₀ : Cursor) (t₀ table : List ℕ) (c : Cursor) (n 
   taken-length = ap length (l .stored) ∙ filled-length (l .made) t₀ (omega (arith, l .count, l .room))
 
   -- one more
-  pub taken-next : (k : Command) (d : Cursor) → nextFrom s c ≡ Next.Command k d → n < length t₀ / 9
+  taken-next : (k : Command) (d : Cursor) → nextFrom s c ≡ Next.Command k d → n < length t₀ / 9
       → Taken s c₀ t₀ (put table n (recordWords k)) d (n + 1)
   unfolding taken
   taken-next k d e h =
@@ -75,6 +94,10 @@ module _ (s : List ℕ) (c₀ : Cursor) (t₀ table : List ℕ) (c : Cursor) (n 
         room = omega arith;
         stored = rw (l .stored) (put-next (l .made) k t₀ n (l .count));
       }
+
+  pub taken-read : (d : Cursor) → Stepped (nextFrom s c) (Step.Read d) → (t : List ℕ) → t ≡ tableOf (nextFrom s c) table n → n < length t₀ / 9
+      → Valid s d × Taken s c₀ t₀ t d (n + 1)
+  taken-read d q t e h = (command-past s c (q .0) d (q .1) .0 .valid, rw (e, q .1) (taken-next (q .0) d (q .1) h))
 
   -- nothing more is taken: the answer, and the table
   module _ (g : isGood s c₀ ≡ true) where

@@ -1,13 +1,14 @@
 -- Reading into records: the commands from a cursor, in order, as many as have room.
-use Prim.Native.Nat.{ℕ, zero, suc, _*_, _/_}
+use Prim.Native.Nat.{ℕ, zero, suc, _*_, _/_, _<_}
 use mathlib.Core.Bool.{cond}
 use mathlib.Core.List.{List, [], _∷_, _++_}
-use lib.ListN.{length, drop}
+use lib.ListN.{length, drop, getD}
 use Rattle.command.specs.declared.Command.{Command}
 use Rattle.command.specs.declared.Refusal.{Refusal}
 use Rattle.parser.specs.All.{Commands, command, stop, finish, commands}
 use Rattle.parser.specs.Next.{isGood}
 use Rattle.parser.specs.declared.Next.{Next}
+use Rattle.token.specs.Flat.{wordRead}
 use Rattle.token.specs.declared.Cursor.{Cursor}
 use Rattle.records.specs.Records.{recordWords, wordsOf, put}
 use Rattle.records.specs.declared.Ended.{Ended}
@@ -50,6 +51,17 @@ abbrev pub stepOf : Next → Step
 stepOf (Next.Command k d) = Step.Read d
 stepOf (Next.Refused e line d) = Step.Ends d (Ended.Refused e line)
 stepOf (Next.Done d) = Step.Ends d Ended.Whole
+
+-- a quick step tells only where the blank stands that ends the command
+abbrev pub behind : List ℕ → Cursor → Step → Step
+behind s c (Step.Quick e) = Step.Read (wordRead c e (getD s e 0))
+behind s c (Step.Read d) = Step.Read d
+behind s c (Step.Ends d e) = Step.Ends d e
+
+abbrev pub Inside : List ℕ → Step → Type 0
+Inside s (Step.Quick e) = e < length s
+Inside s (Step.Read d) = Unit {0}
+Inside s (Step.Ends d e) = Unit {0}
 
 abbrev pub tableOf : Next → List ℕ → ℕ → List ℕ
 tableOf (Next.Command k d) table n = put table n (recordWords k)

@@ -4,12 +4,15 @@
 pub mod types;
 
 use brief::Brief;
+use brief::var::Variable;
 use command::Command;
 use command::Refusal;
 use command::Time;
 use header::Row;
 use idcode::IdCode;
 use parser::Next;
+use scope::ReferenceIndex;
+use scope::VarType;
 use text::Text;
 use token::Cursor;
 ghost use mathlib.Core.Path.{_≡_};
@@ -17,11 +20,12 @@ ghost use mathlib.Core.List.{[], _∷_};
 ghost use Prim.Native.Nat.{_+_, _*_, _≤_};
 ghost use lib.ListN.{length};
 ghost use Rattle.brief.specs.Brief.{Tells};
+ghost use Rattle.command.specs.declared.Command.{Command};
 ghost use Rattle.parser.specs.Next.{nextFrom};
 ghost use Rattle.token.specs.Read.{Valid};
 ghost use Rattle.records.specs.Records.{recordWords, recordAt, commandOf, varCommand, made as madeOf, put as putWords};
 ghost use Rattle.records.specs.Types.{numberMost};
-ghost use Rattle.records.specs.Read.{readOf, answerOf, filled, stepOf, tableOf};
+ghost use Rattle.records.specs.Read.{readOf, answerOf, filled, stepOf, behind, Inside, tableOf};
 
 // A record by value; none where there is none, or where the words are no command.
 pub enum Recorded {
@@ -61,6 +65,10 @@ pub fn read(input: &[u8], c: Cursor, records: &mut [u64]) -> ReadAnswer
             return answer(cur, n, Ended::Full);
         }
         match step_quick(input, cur, records, n) {
+            Step::Quick(end) => {
+                n += 1;
+                cur = token::word_read(cur, end, input[end]);
+            }
             Step::Read(d) => {
                 n += 1;
                 cur = d;
@@ -84,6 +92,8 @@ fn answer(cursor: Cursor, count: usize, ended: Ended) -> ReadAnswer
 
 // One command read into its record, or how reading ends.
 enum Step {
+    // The place of the blank that ends it.
+    Quick(usize),
     Read(Cursor),
     Ends(Cursor, Ended),
 }
@@ -94,14 +104,17 @@ fn glance(input: &[u8], at: usize) -> Brief
     requires { ⌜ length (now input) ≤ 4294967295 ⌝ }
     ensures { λ r. ⌜ Tells (now (input .entry)) at r ⌝ }
 {
-    if input.len() <= at {
+    if input.len() <= at + 2 {
         return Brief::Other;
     }
     let b = input[at];
+    if b / 2 == 24 {
+        return brief::scalar(input, at);
+    }
     match b {
         b'#' => brief::time(input, at),
-        b'0' | b'1' | b'x' | b'X' | b'z' | b'Z' => brief::scalar(input, at),
-        b'b' | b'B' => brief::vector(input, at),
+        b'x' | b'X' | b'z' | b'Z' => brief::scalar(input, at),
+        b'b' | b'B' => brief::vector(&input[0..], at),
         _ => Brief::Other,
     }
 }
@@ -110,26 +123,26 @@ fn glance(input: &[u8], at: usize) -> Brief
 fn step_quick(input: &[u8], c: Cursor, records: &mut [u64], n: usize) -> Step
     requires { ⌜ Valid (now input) c ⌝ }
     requires { ⌜ 9 * n + 9 ≤ length (now records) ⌝ }
-    ensures { λ r. ⌜ (r ≡ stepOf (nextFrom (now (input .entry)) c)) × (now (records .exit) ≡ tableOf (nextFrom (now (input .entry)) c) (now (records .entry)) n) ⌝ }
+    ensures { λ r. ⌜ (behind (now (input .entry)) c r ≡ stepOf (nextFrom (now (input .entry)) c)) × Inside (now (input .entry)) r × (now (records .exit) ≡ tableOf (nextFrom (now (input .entry)) c) (now (records .entry)) n) ⌝ }
 {
     let at = c.place;
     match glance(input, at) {
         Brief::Time(t, end) => {
             put(records, n, 9, 0, t, 0, 0, 0, 0, 0, 0);
-            Step::Read(token::word_read(c, end, input[end]))
+            Step::Quick(end)
         }
         Brief::Scalar(i, end) => {
             let v = types::value_at(input[at]);
             put(records, n, 10, v, 0, i, 0, 0, 0, 0, 0);
-            Step::Read(token::word_read(c, end, input[end]))
+            Step::Quick(end)
         }
         Brief::Vector(i, stop, end) => {
             let from = at + 1;
             let len = stop - from;
             put(records, n, 11, 0, 0, i, from as u64, len as u64, 0, 0, 0);
-            Step::Read(token::word_read(c, end, input[end]))
+            Step::Quick(end)
         }
-        Brief::Other => step_plain(input, again(c), records, n),
+        Brief::Other => step_more(&input[0..], again(c), records, n),
     }
 }
 
@@ -143,6 +156,25 @@ fn again(c: Cursor) -> Cursor
         line: c.line,
         pending: c.pending,
         sim,
+    }
+}
+
+// A variable's definition is told by a quick look as well.
+fn step_more(input: &[u8], c: Cursor, records: &mut [u64], n: usize) -> Step
+    requires { ⌜ Valid (now input) c ⌝ }
+    requires { ⌜ 9 * n + 9 ≤ length (now records) ⌝ }
+    ensures { λ r. ⌜ (behind (now (input .entry)) c r ≡ stepOf (nextFrom (now (input .entry)) c)) × Inside (now (input .entry)) r × (now (records .exit) ≡ tableOf (nextFrom (now (input .entry)) c) (now (records .entry)) n) ⌝ }
+{
+    match brief::var::look(input, c.place) {
+        Variable::Is(v, end) => {
+            let t = v.var_type;
+            let i = v.code;
+            let r = v.reference;
+            let x = v.index;
+            put_var(records, n, t, v.size, i, r, x);
+            Step::Quick(end)
+        }
+        Variable::Other => step_plain(input, c, records, n),
     }
 }
 
@@ -218,6 +250,26 @@ fn put_text(records: &mut [u64], n: usize, k: u64, t: u64, c: u64, x: Text)
     );
 }
 
+// Stores a variable's definition.
+fn put_var(records: &mut [u64], n: usize, t: VarType, w: u32, i: IdCode, r: Text, x: ReferenceIndex)
+    requires { ⌜ 9 * n + 9 ≤ length (now records) ⌝ }
+    ensures { λ _. ⌜ now (records .exit) ≡ putWords (now (records .entry)) n (recordWords (Command.VarDef t w i r x)) ⌝ }
+{
+    put(
+        records,
+        n,
+        7,
+        header::types::var_number(t),
+        w as u64,
+        i.0,
+        r.start as u64,
+        r.len as u64,
+        header::index_form(x),
+        header::first_word(x),
+        header::second_word(x),
+    );
+}
+
 // Stores the command k as record `n`.
 fn put_command(records: &mut [u64], n: usize, k: Command)
     requires { ⌜ 9 * n + 9 ≤ length (now records) ⌝ }
@@ -230,19 +282,7 @@ fn put_command(records: &mut [u64], n: usize, k: Command)
         Command::Timescale(v, u) => put_plain(records, n, 4, types::unit_number(u), v as u64, 0),
         Command::ScopeDef(t, i) => put_text(records, n, 5, header::types::scope_number(t), 0, i),
         Command::Upscope => put_plain(records, n, 6, 0, 0, 0),
-        Command::VarDef(t, w, i, r, x) => put(
-            records,
-            n,
-            7,
-            header::types::var_number(t),
-            w as u64,
-            i.0,
-            r.start as u64,
-            r.len as u64,
-            header::index_form(x),
-            header::first_word(x),
-            header::second_word(x),
-        ),
+        Command::VarDef(t, w, i, r, x) => put_var(records, n, t, w, i, r, x),
         Command::Enddefinitions => put_plain(records, n, 8, 0, 0, 0),
         Command::Timestamp(t) => put_plain(records, n, 9, 0, t.0, 0),
         Command::ChangeScalar(i, v) => put_plain(records, n, 10, types::value_number(v), 0, i.0),

@@ -48,9 +48,10 @@ pub fn value_number(v: Value) -> u64
 pub fn value_at(b: u8) -> u64
     ensures { λ r. ⌜ r ≡ numberOf (valueOf b) ⌝ }
 {
+    if b / 2 == 24 {
+        return (b as u64) - 48;
+    }
     match b {
-        b'0' => 0,
-        b'1' => 1,
         b'x' | b'X' => 2,
         _ => 3,
     }

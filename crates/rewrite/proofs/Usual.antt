@@ -30,6 +30,10 @@ use Rattle.rewrite.proofs.Turn.{command-placed, Steps, command-steps}
 known : (i : ℕ) → i < 2 ^ 64 - 1 → isId (record { 0 = i }) ≡ true
 known i h = id-some (record { 0 = i }) (λ q. omega (arith, q))
 
+-- the cursor may be moved behind a word that ends at e
+pub may-move : (s : List ℕ) (c : Cursor) → Valid s c → (e : ℕ) → e < length s → (e < 4294967295) × (c .line ≤ 4294967296)
+may-move s c v e h = (omega (arith, v .short), omega (arith, v .counted, v .within, v .short))
+
 -- a vector has a value
 some : (s : List ℕ) (at stop e i : ℕ) → ReadsVector s at stop e i → length (part s (valuesAt at stop)) ≡ 0 → ⊥
 unfolding part

@@ -1,5 +1,6 @@
 // Commands read and written anew, as many as one output has room for: the work of one turn of a program that rewrites a dump.
 use brief::Brief;
+use brief::var::Variable;
 use command::Refusal;
 use idcode::IdCode;
 use parser::Next;
@@ -78,14 +79,17 @@ fn glance(input: &[u8], at: usize) -> Brief
     requires { ⌜ length (now input) ≤ 4294967295 ⌝ }
     ensures { λ r. ⌜ Tells (now (input .entry)) at r ⌝ }
 {
-    if input.len() <= at {
+    if input.len() <= at + 2 {
         return Brief::Other;
     }
     let b = input[at];
+    if b / 2 == 24 {
+        return brief::scalar(input, at);
+    }
     match b {
         b'#' => brief::time(input, at),
-        b'0' | b'1' | b'x' | b'X' | b'z' | b'Z' => brief::scalar(input, at),
-        b'b' | b'B' => brief::vector(input, at),
+        b'x' | b'X' | b'z' | b'Z' => brief::scalar(input, at),
+        b'b' | b'B' => brief::vector(&input[0..], at),
         _ => Brief::Other,
     }
 }
@@ -110,7 +114,7 @@ fn step_quick(input: &[u8], c: Cursor, w: Writer, out: &mut [u8]) -> Step
             let p = lay::lay_vector(&input[at + 1..stop], IdCode(i), out);
             laid(p, c, w, token::word_read(c, end, input[end]))
         }
-        Brief::Other => step_plain(input, again(c), state_again(w), out),
+        Brief::Other => step_more(&input[0..], again(c), state_again(w), out),
     }
 }
 
@@ -146,6 +150,20 @@ fn laid(p: Placed, c: Cursor, w: Writer, d: Cursor) -> Step
     match p {
         Placed::Count(n) => Step::Wrote(d, n, w),
         Placed::NoRoom => Step::Ends(c, Ended::Refused(Refusal::NoRoom, d.line)),
+    }
+}
+
+// A variable's definition is told by a quick look as well.
+fn step_more(input: &[u8], c: Cursor, w: Writer, out: &mut [u8]) -> Step
+    requires { ⌜ Valid (now input) c ⌝ }
+    ensures { λ r. ⌜ (r ≡ stepOf (now (input .entry)) c w (now (out .entry)) (nextFrom (now (input .entry)) c)) × (now (out .exit) ≡ leftBy (now (input .entry)) w (now (out .entry)) (nextFrom (now (input .entry)) c)) ⌝ }
+{
+    match brief::var::look(input, c.place) {
+        Variable::Is(v, end) => {
+            let d = token::word_read(c, end, input[end]);
+            wrote(w.var(input, v, out), c, d)
+        }
+        Variable::Other => step_plain(input, c, w, out),
     }
 }
 

@@ -37,10 +37,6 @@ pub enum Placed {
 pub fn whitespace_byte(b: u8) -> bool
     ensures { λ r. ⌜ r ≡ isBlank b ⌝ }
 {
-    // Nearly every byte is turned away here.
-    if b' ' < b {
-        return false;
-    }
     if b == b'\n' {
         return true;
     }

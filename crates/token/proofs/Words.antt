@@ -1,15 +1,15 @@
 -- Laws of words, which have no newline: where one ends, the cursor behind it, and the three ways in which it ends.
-use Prim.Native.Nat.{ℕ, zero, suc, _+_, _-_, _≤_, _<_, min}
+use Prim.Native.Nat.{ℕ, zero, suc, _+_, _-_, _/_, _≤_, _<_, min}
 use mathlib.Core.Path.{_≡_, refl, sym, ap, _∙_}
 use mathlib.Core.Bool.{true, false, true≢false}
 use mathlib.Core.List.{List, [], _∷_}
 use native.Mathlib.Nat.{add-zero}
 use native.Mathlib.Omega.{arith}
-use borrow.Author.Tests.{ltb-true, ltb-false, eqb-true}
+use borrow.Author.Tests.{ltb-true, ltb-false, eqb-true, eqb-false}
 use lib.Dec.{eqb, ltb}
 use lib.ListN.{length, take, drop, getD, length-take, length-drop, drop-of-length-le}
 use lib.Seq.{getD-drop}
-use Rattle.text.specs.Bytes.{isBlank}
+use Rattle.text.specs.Bytes.{isBlank, has}
 use Rattle.text.proofs.Lists.{by-test, drop-step}
 use Rattle.value.specs.Values.{isValue}
 use Rattle.value.proofs.Values.{by-value}
@@ -169,6 +169,30 @@ module _ (s : List ℕ) (i : ℕ) where
   pub values-none : length s ≤ i → valuesIn (drop i s) ≡ 0
   unfolding valuesIn
   values-none h = rw (drop-of-length-le s h)
+
+-- `0` and `1`
+pub pair-value : (b : ℕ) → b / 2 ≡ 24 → isValue b ≡ true
+unfolding isValue has
+pair-value b h =
+    by-test (eqb b 48) (λ q. rw (eqb-true b 48 q))
+    (λ q. let n = eqb-false b 48 q in let e : b ≡ 49 = omega arith in rw e)
+
+-- only values stand from `at` up to i
+abbrev pub ValuesTo : List ℕ → ℕ → ℕ → Type 0
+ValuesTo s at i = (i ≤ length s) × (at ≤ i) × (at + valuesIn (drop at s) ≡ i + valuesIn (drop i s))
+
+pub values-more : (s : List ℕ) (at i : ℕ) → ValuesTo s at i → i < length s → isValue (getD s i 0) ≡ true → ValuesTo s at (i + 1)
+values-more s at i p h e = (omega arith, omega (arith, p .1), omega (arith, p .2, values-step s i h e))
+
+pub values-on : (s : List ℕ) (at i j : ℕ) → ValuesTo s at i → ValuesTo s i j → ValuesTo s at j
+values-on s at i j p q = (q .0, omega (arith, p .1, q .1), p .2 ∙ q .2)
+
+pub values-two : (s : List ℕ) (at i : ℕ) → ValuesTo s at i → i + 1 < length s → getD s i 0 / 2 ≡ 24 → getD s (i + 1) 0 / 2 ≡ 24
+    → ValuesTo s at (i + 2)
+values-two s at i p h a b =
+    let one : ValuesTo s at (i + 1) = values-more s at i p (omega arith) (pair-value (getD s i 0) a) in
+    let two : i + 1 + 1 ≡ i + 2 = omega arith in
+    rw two at (values-more s at (i + 1) one h (pair-value (getD s (i + 1) 0) b))
 
 -- values are no blanks: they lie in the word
 pub values-in : (r : List ℕ) → length (firstPassed values r) ≡ valuesIn r

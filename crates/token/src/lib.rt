@@ -170,12 +170,38 @@ pub fn values_end(input: &[u8], at: usize) -> usize
     ensures { λ r. ⌜ r ≡ at + valuesIn (drop at (now (input .entry))) ⌝ }
 {
     let mut i = at;
-    while i < input.len() {
+    loop {
+        i = pairs_end(input, i);
+        if input.len() <= i {
+            return i;
+        }
         if value::vector::is_value(input[i]) {
             i += 1;
         } else {
             return i;
         }
+    }
+}
+
+// A place up to which `0` and `1` stand from `at` on, looked for two a turn: nearly all values are such.
+fn pairs_end(input: &[u8], at: usize) -> usize
+    requires { ⌜ at ≤ length (now input) ⌝ }
+    ensures { λ r. ⌜ (r ≤ length (now (input .entry))) × (at ≤ r) × (at + valuesIn (drop at (now (input .entry))) ≡ r + valuesIn (drop r (now (input .entry)))) ⌝ }
+{
+    let stop = input.len();
+    if stop <= at {
+        return at;
+    }
+    let last = stop - 1;
+    let mut i = at;
+    while i < last {
+        if input[i] / 2 != 24 {
+            return i;
+        }
+        if input[i + 1] / 2 != 24 {
+            return i + 1;
+        }
+        i += 2;
     }
     i
 }

@@ -1,6 +1,6 @@
 -- What 25 and 22 ask of texts.
 use Prim.Native.Nat.{ℕ, _+_, _≤_, _<_}
-use mathlib.Core.Path.{_≡_, refl, sym, ap₂, _∙_}
+use mathlib.Core.Path.{_≡_, refl, sym, ap, ap₂, _∙_}
 use mathlib.Core.Bool.{true, false, not, _&&_, and-true, and-false}
 use mathlib.Core.List.{List, [], _∷_, map}
 use native.Mathlib.Omega.{arith}
@@ -15,8 +15,10 @@ use Rattle.text.specs.Utf8.{validUtf8}
 use Rattle.text.specs.WhiteSpace.{trimmed}
 use Rattle.text.specs.declared.Found.{Found}
 use Rattle.text.specs.declared.Text.{Text}
+use Rattle.text.proofs.Blanks.{solid}
 use Rattle.text.proofs.Has.{each-not}
 use Rattle.text.proofs.Lists.{by-test, drop-step}
+use Rattle.text.proofs.WellFormed.{AsWhole, ascii-passed, empty-valid}
 use Rattle.value.specs.Values.{isValue, areValues, lower}
 use Rattle.value.proofs.Values.{by-value}
 use Rattle.write.specs.Call.{tooLong, outside}
@@ -68,6 +70,17 @@ module _ (s : List ℕ) (i : ℕ) where
   pub blank-done : length s ≤ i → noBlank (drop i s) ≡ true
   unfolding noBlank
   blank-done h = rw (drop-of-length-le s h)
+
+-- ---- plain bytes before the place i: what is left decides
+abbrev pub Plain : List ℕ → ℕ → Type 0
+Plain s i = AsWhole s i × (noBlank s ≡ noBlank (drop i s))
+
+module _ (s : List ℕ) (i : ℕ) (p : Plain s i) where
+  pub plain-more : i < length s → (32 < getD s i 0) × (getD s i 0 < 128) → Plain s (i + 1)
+  plain-more h b = (ascii-passed s i (p .0) h (b .1), p .1 ∙ sym (blank-more s i h (solid (getD s i 0) (b .0))))
+
+  pub plain-done : length s ≤ i → (noBlank s ≡ true) × (validUtf8 s ≡ true)
+  plain-done h = (p .1 ∙ blank-done s i h, sym (p .0 .1) ∙ ap validUtf8 (drop-of-length-le s h) ∙ empty-valid)
 
 -- ---- names
 pub name-none : (s : List ℕ) → length s ≡ 0 → isName s ≡ false

@@ -1,7 +1,7 @@
 -- How a command is laid out, when it may be written, and the state after it.
 use Prim.Native.Nat.{ℕ, _+_, _-_, _^_}
 use mathlib.Core.Bool.{Bool, true, false, cond, not, _&&_}
-use mathlib.Core.List.{List, [], _∷_, _++_}
+use mathlib.Core.List.{List, [], _∷_}
 use lib.Dec.{leb, eqb}
 use lib.ListN.{length}
 use Rattle.command.specs.Meaning.{Meaning, remark, timescale, scopeDef, upscope, varDef, enddefinitions, timestamp, change, begin, end, Change, scalar, vector, real, string, remarkName, simName, openAfter}
@@ -11,22 +11,15 @@ use Rattle.idcode.specs.Id.{idText}
 use Rattle.idcode.specs.declared.IdCode.{IdCode}
 use Rattle.number.specs.Decimal.{decimalOf}
 use Rattle.number.specs.Real.{isReal}
-use Rattle.scope.specs.Index.{indexText}
 use Rattle.scope.specs.Types.{scopeName, varName}
-use Rattle.scope.specs.declared.ReferenceIndex.{ReferenceIndex}
 use Rattle.text.specs.Bytes.{bytes, has, holds, isToken, endMark}
 use Rattle.text.specs.Utf8.{validUtf8}
 use Rattle.text.specs.WhiteSpace.{trimmed}
 use Rattle.timescale.specs.Ieee.{unitName}
 use Rattle.value.specs.Values.{valueName}
 use Rattle.lay.specs.Put.{concat}
+use Rattle.define.specs.Define.{indexed}
 use Rattle.write.specs.declared.Writer.{Writer}
-
--- an index stands behind a space
-abbrev pub indexed : ReferenceIndex → List ℕ
-indexed ReferenceIndex.None = []
-indexed (ReferenceIndex.BitSelect a) = bytes " " ++ indexText (ReferenceIndex.BitSelect a)
-indexed (ReferenceIndex.Range a b) = bytes " " ++ indexText (ReferenceIndex.Range a b)
 
 -- the words of a command, written one after the other
 abbrev pub words : Meaning → List (List ℕ)

@@ -2,7 +2,10 @@
 use text::Found;
 use text::Text;
 ghost use mathlib.Core.Path.{_≡_};
+ghost use Prim.Native.Nat.{_<_};
+ghost use mathlib.Core.Bool.{true};
 ghost use Rattle.text.specs.Bytes.{noBlank};
+ghost use Rattle.text.specs.Utf8.{validUtf8};
 ghost use Rattle.value.specs.Values.{lower};
 ghost use mathlib.Core.List.{map};
 ghost use Rattle.write.specs.Call.{outside as isOutside};
@@ -40,10 +43,33 @@ pub fn is_name(s: &[u8]) -> bool
     if s.len() == 0 {
         return false;
     }
+    if is_plain(s) {
+        return true;
+    }
     if !no_blank(s) {
         return false;
     }
     text::utf8::valid(s)
+}
+
+// Whether each byte is printable ASCII, as in nearly all names: looked at two a turn.
+fn is_plain(s: &[u8]) -> bool
+    ensures { λ r. ⌜ (r ≡ true → (noBlank (now (s .entry)) ≡ true) × (validUtf8 (now (s .entry)) ≡ true)) ⌝ }
+{
+    let mut i = 0;
+    while 2 <= s.len() - i {
+        if !plain(s[i]) || !plain(s[i + 1]) {
+            return false;
+        }
+        i += 2;
+    }
+    i == s.len() || plain(s[i])
+}
+
+fn plain(b: u8) -> bool
+    ensures { λ r. ⌜ (r ≡ true → (32 < b) × (b < 128)) ⌝ }
+{
+    32 < b && b < 127
 }
 
 // The text of a comment, a date, a version.

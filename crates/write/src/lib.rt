@@ -13,19 +13,16 @@ use scope::ScopeType;
 use scope::Var;
 use scope::VarType;
 use text::Placed;
-use text::Spelled;
 use text::Text;
 use timescale::TimescaleUnit;
 use value::Value;
 ghost use mathlib.Core.Path.{_≡_};
-ghost use mathlib.Core.List.{[], _∷_, _++_};
+ghost use mathlib.Core.List.{[], _∷_};
 ghost use Prim.Native.Nat.{_<_};
-ghost use lib.ListN.{take};
-ghost use Rattle.command.specs.Meaning.{varDef};
 ghost use Rattle.text.specs.Bytes.{bytes};
-ghost use Rattle.text.specs.Texts.{part, spelled, textIn, putAnswer, putBytes};
+ghost use Rattle.text.specs.Texts.{part};
 ghost use Rattle.write.specs.Call.{call, outcome, outside, written, newVar, Does, Adds};
-ghost use Rattle.write.specs.Layout.{fresh, layout, raised as raisedId, indexed as indexedText, isOpen, isRemark, simNumber};
+ghost use Rattle.write.specs.Layout.{fresh, raised as raisedId, isOpen, isRemark, simNumber};
 ghost use Rattle.lay.specs.Put.{concat};
 
 // The state, carried from call to call.
@@ -71,24 +68,6 @@ fn names_open(o: Open, k: SimulationCommand) -> bool
     match o {
         Open::None => false,
         Open::Of(j) => sim_number(j) == sim_number(k),
-    }
-}
-
-// A short text with a space before it.
-fn spaced(t: Spelled) -> Spelled
-    ensures { λ r. ⌜ r ≡ spelled (take 32 (bytes " " ++ textIn t)) ⌝ }
-{
-    text::join(text::spell(b" "), t)
-}
-
-// An index's text with a space before it.
-fn indexed(x: ReferenceIndex) -> Spelled
-    ensures { λ r. ⌜ r ≡ spelled (indexedText x) ⌝ }
-{
-    match x {
-        ReferenceIndex::None => text::spell(b""),
-        ReferenceIndex::BitSelect(n) => spaced(ReferenceIndex::BitSelect(n).spell()),
-        ReferenceIndex::Range(msb, lsb) => spaced(ReferenceIndex::Range(msb, lsb).spell()),
     }
 }
 
@@ -281,7 +260,7 @@ impl Writer {
         }
         let last = self.id;
         let w = self.with_id(IdCode(raised(code, last.0)));
-        w.laid(lay_var(var_type, width, id, v, index, out))
+        w.laid(define::lay_var(var_type, width, id, v, index, out))
     }
 
     // Writes a `$var` command with the next available id, and answers it.
@@ -457,33 +436,4 @@ impl Writer {
             Command::End(k) => self.end(k, out),
         }
     }
-}
-
-// A variable's words.
-fn lay_var(
-    var_type: VarType,
-    width: u32,
-    id: IdCode,
-    reference: &[u8],
-    index: ReferenceIndex,
-    out: &mut [u8],
-) -> Placed
-    ensures { λ r. ⌜ (r ≡ putAnswer (layout (varDef «var_type» width id (now (reference .entry)) index)) (now (out .entry))) × (now (out .exit) ≡ putBytes (layout (varDef «var_type» width id (now (reference .entry)) index)) (now (out .entry))) ⌝ }
-{
-    let k = var_type.spell();
-    let kind = k.bytes;
-    let n = number::decimal(width as u64);
-    let digits = n.bytes;
-    let i = id.spell();
-    let code = i.bytes;
-    let x = indexed(index);
-    let place = x.bytes;
-    lay::lay_var(
-        lay::front(&kind, k.len),
-        lay::front(&digits, n.len),
-        lay::front(&code, i.len),
-        reference,
-        lay::front(&place, x.len),
-        out,
-    )
 }

@@ -12,13 +12,12 @@ use Rattle.header.specs.Good.{isParent, openTo, isGoodFrom, isGoodTable}
 use Rattle.header.specs.Rows.{top, parentOf, rowAt, rowsOf}
 use Rattle.header.specs.declared.rows.Parent.{Parent}
 use Rattle.header.specs.declared.rows.Row.{Row}
-use Rattle.scope.specs.declared.ScopeType.{ScopeType}
-use Rattle.scope.specs.declared.Var.{Var}
-use Rattle.text.specs.declared.Text.{Text}
 use Rattle.text.proofs.Lists.{by-test}
+use Rattle.peek.specs.Peek.{kindOf}
+use Rattle.peek.proofs.Peeking.{word-of, none-kind, scope-kind}
 use Rattle.write_header.specs.Chain.{parentAt, chain, base, Under, Unwound, StandsOn}
 use Rattle.write_header.specs.Levels.{rest}
-use Rattle.write_header.proofs.Rows.{word-of, open-other, scope-parent, var-parent, comment-parent, rest-all, rest-cons, length-rows}
+use Rattle.write_header.proofs.Rows.{open-other, scope-parent, var-parent, comment-parent, rest-all, rest-cons, length-rows}
 
 length-chain : (table : List ℕ) (cur d : ℕ) → length (chain table cur d) ≡ d
 unfolding chain
@@ -92,6 +91,12 @@ closed table p cur (suc d) q cur′ d′ h f e u =
       fewer = omega (arith, v .fewer);
     }
 
+-- ---- there is no row
+pub no-row : (table : List ℕ) (i cur d : ℕ) → kindOf (rowAt table i) ≡ 0
+    → (rs : List Row) → isGoodFrom i (chain table cur d) (rowAt table i ∷ rs) ≡ false
+unfolding isGoodFrom
+no-row table i cur d e rs = rw (none-kind (rowAt table i) e)
+
 -- ---- row i, where the chain from `cur` is open, and the chain from cur′ is what stays open before it
 module _ (table : List ℕ) (i cur d cur′ d′ : ℕ) (ends : base table cur d ≡ top) {q : ℕ} (is : q ≡ parentAt table i)
     (unwound : Unwound table q cur d cur′ d′) where
@@ -111,10 +116,6 @@ module _ (table : List ℕ) (i cur d cur′ d′ : ℕ) (ends : base table cur d
     stays : openTo p (chain table cur d) ≡ chain table cur′ d′
     stays = rw (← e) (sym (u .left))
 
-  pub no-row : rowAt table i ≡ Row.None → (rs : List Row) → isGoodFrom i (chain table cur d) (rowAt table i ∷ rs) ≡ false
-  unfolding isGoodFrom
-  no-row e rs = rw e
-
   strays : (r : Row) → rowAt table i ≡ r → (cur′ ≡ parentAt table i → ⊥) → (rs : List Row) → isGoodFrom i (chain table cur d) (r ∷ rs) ≡ false
   unfolding isGoodFrom
   strays (Row.Scope p k t) e f rs = rw (parent-no (scope-parent table i e) f)
@@ -129,36 +130,39 @@ module _ (table : List ℕ) (i cur d cur′ d′ : ℕ) (ends : base table cur d
     f : cur′ ≡ parentAt table i
     f = found ∙ is
 
-    pub too-deep : {p : Parent} {k : ScopeType} {t : Text} → rowAt table i ≡ Row.Scope p k t → 64 ≤ d′
-        → (rs : List Row) → isGoodFrom i (chain table cur d) (rowAt table i ∷ rs) ≡ false
+    -- a scope
+    module _ (e : kindOf (rowAt table i) ≡ 1) where
+      pub too-deep : 64 ≤ d′ → (rs : List Row) → isGoodFrom i (chain table cur d) (rowAt table i ∷ rs) ≡ false
+      unfolding isGoodFrom
+      too-deep l rs =
+          let x = scope-kind (rowAt table i) e in
+          let q = scope-parent table i (x .3) in
+          rw (x .3, stays q, length-chain table cur′ d′, le-ltb d′ 64 l, and-false (isParent (x .0) (chain table cur d)))
+
+      pub scope-stands : d′ < 64 → i < top → StandsOn table i cur d i (d′ + 1)
+      unfolding isGoodFrom base Under chain
+      scope-stands l h =
+          let x = scope-kind (rowAt table i) e in
+          let q = scope-parent table i (x .3) in
+          record {
+            ends = rw (add-one d′, ← f) (u .same ∙ ends);
+            under = rw (add-one d′, ← f) (h, u .under);
+            deep = omega arith;
+            goes = λ rs. rw (x .3, parent-yes q f, stays q, length-chain table cur′ d′, lt-ltb d′ 64 l, add-one d′, f);
+          }
+
+    -- a variable or a comment
+    leaf : (r : Row) → rowAt table i ≡ r → (kindOf r ≡ 0 → ⊥) → (kindOf r ≡ 1 → ⊥)
+        → (rs : List Row) → isGoodFrom i (chain table cur d) (r ∷ rs) ≡ isGoodFrom (i + 1) (chain table cur′ d′) rs
     unfolding isGoodFrom
-    too-deep {p} e l rs =
-        let q = scope-parent table i e in
-        rw (e, stays q, length-chain table cur′ d′, le-ltb d′ 64 l, and-false (isParent p (chain table cur d)))
+    leaf (Row.Scope p k t) e kn ks rs = absurd (ks refl)
+    leaf (Row.Var p v) e kn ks rs = let q = var-parent table i e in rw (parent-yes q f, stays q)
+    leaf (Row.Comment p t) e kn ks rs = let q = comment-parent table i e in rw (parent-yes q f, stays q)
+    leaf Row.None e kn ks rs = absurd (kn refl)
 
-    pub scope-stands : {p : Parent} {k : ScopeType} {t : Text} → rowAt table i ≡ Row.Scope p k t → d′ < 64 → i < top
-        → StandsOn table i cur d i (d′ + 1)
-    unfolding isGoodFrom base Under chain
-    scope-stands e l h =
-        let q = scope-parent table i e in
-        record {
-          ends = rw (add-one d′, ← f) (u .same ∙ ends);
-          under = rw (add-one d′, ← f) (h, u .under);
-          deep = omega arith;
-          goes = λ rs. rw (e, parent-yes q f, stays q, length-chain table cur′ d′, lt-ltb d′ 64 l, add-one d′, f);
-        }
-
-    leaf : ((rs : List Row) → isGoodFrom i (chain table cur d) (rowAt table i ∷ rs) ≡ isGoodFrom (i + 1) (chain table cur′ d′) rs)
-        → d ≤ 64 → StandsOn table i cur d cur′ d′
-    leaf g h = record { ends = u .same ∙ ends; under = u .under; deep = omega (arith, u .fewer); goes = g }
-
-    pub var-stands : {p : Parent} {v : Var} → rowAt table i ≡ Row.Var p v → d ≤ 64 → StandsOn table i cur d cur′ d′
-    unfolding isGoodFrom
-    var-stands e = let q = var-parent table i e in leaf (λ rs. rw (e, parent-yes q f, stays q))
-
-    pub comment-stands : {p : Parent} {t : Text} → rowAt table i ≡ Row.Comment p t → d ≤ 64 → StandsOn table i cur d cur′ d′
-    unfolding isGoodFrom
-    comment-stands e = let q = comment-parent table i e in leaf (λ rs. rw (e, parent-yes q f, stays q))
+    pub leaf-stands : (kindOf (rowAt table i) ≡ 0 → ⊥) → (kindOf (rowAt table i) ≡ 1 → ⊥) → d ≤ 64 → StandsOn table i cur d cur′ d′
+    leaf-stands kn ks h =
+        record { ends = u .same ∙ ends; under = u .under; deep = omega (arith, u .fewer); goes = leaf (rowAt table i) refl kn ks }
 
 -- ---- the whole table
 pub too-many : (table : List ℕ) (n : ℕ) → 4096 < n → isGoodTable (rowsOf table n) ≡ false

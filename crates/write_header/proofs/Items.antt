@@ -1,27 +1,35 @@
--- Row i is written: what comes of its commands is what comes of the rows from it on.
-use Prim.Native.Nat.{ℕ, _+_, _-_, _<_}
-use mathlib.Core.Path.{_≡_, ap, _∙_}
-use mathlib.Core.Bool.{true}
+-- Row i is written, or variables from it on: what comes of their commands is what comes of the rows from it on.
+use Prim.Native.Nat.{ℕ, _+_, _-_, _≤_, _<_}
+use mathlib.Core.Path.{_≡_, refl, sym, ap, _∙_}
+use mathlib.Core.Bool.{true, false, false≢true}
 use mathlib.Core.List.{List, [], _∷_}
 use native.Mathlib.Omega.{arith}
+use native.Mathlib.Decide.{decLt}
+use borrow.Author.Tests.{eq-eqb, eqb-true}
+use lib.Dec.{eqb}
 use lib.ListN.{length}
 use Rattle.command.specs.Meaning.{Meaning, scopeDef, upscope}
+use Rattle.command.specs.declared.Refusal.{Refusal}
 use Rattle.header.specs.Good.{isGoodFrom}
 use Rattle.header.specs.Header.{inner}
 use Rattle.header.specs.Rows.{top, parentOf, rowAt}
 use Rattle.header.specs.declared.rows.Parent.{Parent}
 use Rattle.header.specs.declared.rows.Row.{Row}
 use Rattle.scope.specs.declared.ScopeType.{ScopeType}
+use Rattle.scope.specs.declared.Var.{Var}
 use Rattle.text.specs.Texts.{part}
 use Rattle.text.specs.declared.Text.{Text}
+use Rattle.text.proofs.Lists.{both}
+use Rattle.peek.specs.Peek.{kindOf, varIn}
+use Rattle.peek.proofs.Peeking.{var-kind}
 use Rattle.write.specs.declared.Writer.{Writer}
-use Rattle.write_header.specs.Chain.{parentAt}
-use Rattle.write_header.specs.Levels.{rest, Where, Ends, WritesItem, WritesScope, Closes, Fits}
-use Rattle.write_header.specs.Meanings.{rowMeanings}
-use Rattle.write_header.specs.Pour.{pour, Writes}
+use Rattle.write_header.specs.Chain.{parentAt, isVarOf}
+use Rattle.write_header.specs.Levels.{rest, Where, Goes, Ends, WritesItem, WritesScope, Closes, Fits}
+use Rattle.write_header.specs.Meanings.{varMeaning, rowMeanings}
+use Rattle.write_header.specs.Pour.{pour, stop, Writes}
 use Rattle.write_header.specs.Written.{Outcome}
 use Rattle.write_header.specs.declared.Wrote.{Wrote}
-use Rattle.write_header.proofs.Rows.{here-scope, here-none, pop, scope-inner}
+use Rattle.write_header.proofs.Rows.{here-scope, here-var, here-none, pop, scope-inner}
 
 module _ (s table : List ℕ) (n levels i : ℕ) (o : List ℕ) (at : ℕ) (w : Writer) (l : i < n) where
   -- row i is one command and opens no scope
@@ -85,6 +93,63 @@ module _ (s table : List ℕ) (n levels i : ℕ) (o : List ℕ) (at : ℕ) (w : 
           rw (z .0, z .1)
           (λ st h q g.
           first st q g ∙ y (i ∷ st) (omega (arith, h, some)) (scope-inner i st small) (here-scope s table n i st l q g e .1))
+
+-- ---- the writing goes on from where it stopped, with the same scopes open
+module _ (s table : List ℕ) (n levels me i : ℕ) (o : List ℕ) (at : ℕ) (w : Writer) (i₁ : ℕ) (o₁ : List ℕ) (at₁ : ℕ) (w₁ : Writer)
+    (x : Goes s table n levels me i o at w i₁ o₁ at₁ w₁) (e : parentAt table i₁ ≡ me) where
+  pub goes-on : (i₂ : ℕ) (o₂ : List ℕ) (at₂ : ℕ) (w₂ : Writer) → Goes s table n levels (parentAt table i₁) i₁ o₁ at₁ w₁ i₂ o₂ at₂ w₂
+      → Goes s table n levels me i o at w i₂ o₂ at₂ w₂
+  goes-on i₂ o₂ at₂ w₂ y st h k g =
+      let a = x st h k g in
+      let b = y st h (k ∙ ap parentOf (sym e)) (a .0) in
+      (b .0, a .1 ∙ b .1)
+
+  pub goes-out : (r : Outcome) → Ends s table n levels (parentAt table i₁) i₁ o₁ at₁ w₁ r → Ends s table n levels me i o at w r
+  goes-out r y st h k g = let a = x st h k g in a .1 ∙ y st h (k ∙ ap parentOf (sym e)) (a .0)
+
+-- ---- variables of one scope: row `from` and those behind it
+pub var-of : (table : List ℕ) (i me : ℕ) → isVarOf table i me ≡ true → (kindOf (rowAt table i) ≡ 2) × (parentAt table i ≡ me)
+var-of table i me e =
+    let a = both (eqb (kindOf (rowAt table i)) 2) (eqb (parentAt table i) me) e in
+    (eqb-true (kindOf (rowAt table i)) 2 (a .0), eqb-true (parentAt table i) me (a .1))
+
+-- row `from` is a variable of its own scope, so that a row that is none lies behind it
+pub moved : (table : List ℕ) (from i : ℕ) {me : ℕ} → me ≡ parentAt table from → kindOf (rowAt table from) ≡ 2 → from ≤ i → isVarOf table i me ≡ false
+    → from < i
+moved table from i {me} m k h e = elim (decLt from i) [
+  | yes l ↦ l
+  | no l ↦
+      let q : i ≡ from = omega arith in
+      absurd (false≢true (sym (rw (q, m, k, eq-eqb (parentAt table from) (parentAt table from) refl) at e)))
+]
+
+module _ (s table : List ℕ) (n from : ℕ) (o : List ℕ) (at : ℕ) (w : Writer) where
+  -- they are written up to row i, however many levels are left
+  abbrev pub Run : ℕ → List ℕ → ℕ → Writer → Type 0
+  Run i o₁ at₁ w₁ = (levels : ℕ) → Goes s table n levels (parentAt table from) from o at w i o₁ at₁ w₁
+
+  module _ (i : ℕ) (o₁ : List ℕ) (at₁ : ℕ) (w₁ : Writer) (l : i < n) {v : Var} (q : v ≡ varIn (rowAt table i))
+      {me : ℕ} (m : me ≡ parentAt table from) (is : isVarOf table i me ≡ true) (x : Run i o₁ at₁ w₁) where
+    its : (kindOf (rowAt table i) ≡ 2) × (parentAt table i ≡ parentAt table from)
+    its = let a = var-of table i me is in (a .0, a .1 ∙ m)
+
+    item : (r : Wrote) (left : List ℕ) → Writes o₁ at₁ w₁ (varMeaning s v ∷ []) (i + 1) r left
+        → (levels : ℕ) → WritesItem s table n levels i o₁ at₁ w₁ r left
+    item r left y levels =
+        leaf s table n levels i o₁ at₁ w₁ l (varMeaning s (varIn (rowAt table i)))
+        (λ st k g. here-var s table n i st l k g (var-kind (rowAt table i) (its .0) .1)) r left (rw q at y)
+
+    pub one-more : (i₂ at₂ : ℕ) (w₂ : Writer) (left : List ℕ) → Writes o₁ at₁ w₁ (varMeaning s v ∷ []) (i + 1) (Wrote.Through i₂ at₂ w₂) left
+        → Run i₂ left at₂ w₂
+    one-more i₂ at₂ w₂ left y levels =
+        goes-on s table n levels (parentAt table from) from o at w i o₁ at₁ w₁ (x levels) (its .1) i₂ left at₂ w₂
+        (item (Wrote.Through i₂ at₂ w₂) left y levels .3)
+
+    pub no-more : (f : Refusal) (at₂ : ℕ) (w₂ : Writer) (left : List ℕ) → Writes o₁ at₁ w₁ (varMeaning s v ∷ []) (i + 1) (Wrote.Refused f at₂ w₂) left
+        → (levels : ℕ) → Ends s table n levels (parentAt table from) from o at w (stop f at₂ w₂ left)
+    no-more f at₂ w₂ left y levels =
+        goes-out s table n levels (parentAt table from) from o at w i o₁ at₁ w₁ (x levels) (its .1) (stop f at₂ w₂ left)
+        (item (Wrote.Refused f at₂ w₂) left y levels)
 
 -- where the items end lies in the output
 pub fits : (s table : List ℕ) (n levels me i : ℕ) (o : List ℕ) (at : ℕ) (w : Writer) (x : Wrote) (left : List ℕ)

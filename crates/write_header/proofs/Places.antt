@@ -1,11 +1,11 @@
 -- What 25 asks: no text of a header lies outside the source.
 use Prim.Native.Nat.{ℕ, zero, suc, _+_, _-_, _/_, _≤_, _<_}
-use mathlib.Core.Path.{_≡_, refl, _∙_}
+use mathlib.Core.Path.{_≡_, refl, subst, _∙_}
 use mathlib.Core.Bool.{true, false, not, _||_}
 use mathlib.Core.List.{List}
 use native.Mathlib.Omega.{arith}
 use native.Mathlib.Decide.{decLt}
-use borrow.Author.Tests.{le-ltb, leb-true, not-false}
+use borrow.Author.Tests.{le-ltb, le-leb, leb-true, not-false}
 use lib.ListN.{length}
 use Rattle.header.specs.Rows.{rowAt, rowsFrom, rowsOf}
 use Rattle.header.specs.declared.Header.{Header}
@@ -16,6 +16,8 @@ use Rattle.scope.specs.declared.Var.{Var}
 use Rattle.text.specs.Texts.{isWithin}
 use Rattle.text.specs.declared.Text.{Text}
 use Rattle.text.proofs.Lists.{neither}
+use Rattle.peek.specs.Peek.{kindOf, textIn, varIn}
+use Rattle.peek.proofs.Peeking.{var-kind}
 use Rattle.write.specs.Call.{tooLong, outside}
 use Rattle.write.proofs.Checks.{outside-else}
 use Rattle.write_header.specs.Levels.{rest, Inside}
@@ -29,6 +31,14 @@ short s e = leb-true (length s) 4294967295 (not-false _ e)
 
 pub placed : (s : List ℕ) (t : Text) → tooLong s ≡ false → not (isWithin s t) ≡ false → outside s t ≡ false
 placed s t e h = outside-else s t (short s e) ∙ h
+
+-- ---- a row's text, and the empty one of none
+pub row-text : (s : List ℕ) (r : Row) → rowOutside s r ≡ not (isWithin s (textIn r))
+unfolding isWithin
+row-text s (Row.Scope p k t) = refl
+row-text s (Row.Var p v) = refl
+row-text s (Row.Comment p t) = refl
+row-text s Row.None = rw (le-leb 0 (length s) (omega arith))
 
 -- ---- the rows from row i on
 none-row : (table : List ℕ) (i : ℕ) → length table / 10 ≤ i → rowAt table i ≡ Row.None
@@ -73,8 +83,11 @@ module _ (s table : List ℕ) (n i : ℕ) (x : Inside s table n) (l : i < n) whe
   pub scope-placed : {p : Parent} {k : ScopeType} {t : Text} → rowAt table i ≡ Row.Scope p k t → outside s t ≡ false
   scope-placed {t = t} e = placed s t (x .short) (rw e at (x .placed i l))
 
-  pub var-placed : {p : Parent} {v : Var} → rowAt table i ≡ Row.Var p v → outside s (v .reference) ≡ false
-  var-placed {v = v} e = placed s (v .reference) (x .short) (rw e at (x .placed i l))
+  pub var-placed : {v : Var} → v ≡ varIn (rowAt table i) → kindOf (rowAt table i) ≡ 2 → outside s (v .reference) ≡ false
+  var-placed {v} q e =
+      rw q
+      (placed s (varIn (rowAt table i) .reference) (x .short)
+      (subst (λ (r : Row). rowOutside s r ≡ false) (var-kind (rowAt table i) e .1) (x .placed i l)))
 
   pub comment-placed : {p : Parent} {t : Text} → rowAt table i ≡ Row.Comment p t → outside s t ≡ false
   comment-placed {t = t} e = placed s t (x .short) (rw e at (x .placed i l))

@@ -2,21 +2,20 @@
 --     here-scope, here-var, here-comment    row i stands in the innermost open scope: its command, and then the rows behind it
 --     pop                                   row i stands further out, or there is none: the innermost scope is closed
 --     top-end                               no scope is open, and no row is left
-use Prim.Native.Nat.{ℕ, zero, suc, _+_, _-_, _/_, _^_, _≤_, _<_}
+use Prim.Native.Nat.{ℕ, zero, suc, _+_, _-_, _/_, _≤_, _<_}
 use mathlib.Core.Path.{_≡_, refl, sym, ap, subst, _∙_}
 use mathlib.Core.Bool.{Bool, true, false, cond, _&&_, false≢true}
 use mathlib.Core.List.{List, [], _∷_}
 use native.Mathlib.Omega.{arith}
 use native.Mathlib.Nat.{sub-self, sub-zero}
 use native.Mathlib.Decide.{decLt}
-use borrow.Author.Tests.{eq-eqb, ne-eqb, ltb-true, eqb-true, leb-true}
+use borrow.Author.Tests.{eq-eqb, ne-eqb, ltb-true, leb-true}
 use lib.Dec.{eqb, ltb, leb}
 use lib.ListN.{length}
 use Rattle.command.specs.Meaning.{comment, remark, scopeDef, upscope, enddefinitions}
 use Rattle.header.specs.Good.{isParent, openTo, isGoodFrom, isGoodTable}
 use Rattle.header.specs.Header.{inner}
-use Rattle.header.specs.Rows.{top, parentWord, parentOf, isIndex, indexOf, allZero, textAt, variable, rowOf, rowAt, rowsFrom, rowsOf}
-use Rattle.header.specs.Types.{scopeTypeOf}
+use Rattle.header.specs.Rows.{top, parentWord, parentOf, rowAt, rowsFrom, rowsOf}
 use Rattle.header.specs.declared.rows.Parent.{Parent}
 use Rattle.header.specs.declared.rows.Row.{Row}
 use Rattle.scope.specs.declared.ScopeType.{ScopeType}
@@ -24,15 +23,13 @@ use Rattle.scope.specs.declared.Var.{Var}
 use Rattle.text.specs.Texts.{part}
 use Rattle.text.specs.declared.Text.{Text}
 use Rattle.text.proofs.Lists.{by-test, both}
-use Rattle.write_header.specs.Chain.{parentIn, parentAt}
+use Rattle.peek.specs.Peek.{parentIn}
+use Rattle.peek.proofs.Peeking.{word-of, row-cases}
+use Rattle.write_header.specs.Chain.{parentAt}
 use Rattle.write_header.specs.Levels.{rest}
 use Rattle.write_header.specs.Meanings.{upscopes, varMeaning, rowMeanings}
 
 -- ---- a row's parent is that of its word
-pub word-of : (w : ℕ) → parentWord (parentOf w) ≡ w
-unfolding parentOf
-word-of w = by-test (eqb w top) (λ e. rw e (sym (eqb-true w top e))) (λ e. rw e)
-
 unfoldable Named : Row → Type 0
 Named (Row.Scope p k t) = parentOf (parentWord p) ≡ p
 Named (Row.Var p v) = parentOf (parentWord p) ≡ p
@@ -58,22 +55,6 @@ module _ (w : ℕ) where
 named-none : Named Row.None
 unfolding Named
 named-none = tt
-
--- ten words are no row, or a row of one of three kinds; what is asked of the words stands in front
-pub row-cases : (P : Row → Type 0) (k p t w c s l f a b : ℕ)
-    → P (Row.Scope (parentOf p) (scopeTypeOf t) (textAt s l))
-    → (w < 2 ^ 32 → isIndex f a b ≡ true → P (Row.Var (parentOf p) (variable t w c (textAt s l) (indexOf f a b))))
-    → P (Row.Comment (parentOf p) (textAt s l)) → P Row.None → P (rowOf k p t w c s l f a b)
-unfolding rowOf
-row-cases P k p t w c s l f a b x y z none =
-    by-test (eqb k 1 && leb t 4 && allZero (w ∷ c ∷ f ∷ a ∷ b ∷ [])) (λ e. rw e x)
-    (λ e.
-    by-test (eqb k 2 && leb t 17 && ltb w (2 ^ 32) && isIndex f a b)
-    (λ q.
-    let i = both (eqb k 2 && leb t 17 && ltb w (2 ^ 32)) (isIndex f a b) q in
-    let n = both (eqb k 2 && leb t 17) (ltb w (2 ^ 32)) (i .0) in
-    rw (e, q) (y (ltb-true w (2 ^ 32) (n .1)) (i .1)))
-    (λ q. by-test (eqb k 3 && allZero (t ∷ w ∷ c ∷ f ∷ a ∷ b ∷ [])) (λ r. rw (e, q, r) z) (λ r. rw (e, q, r) none)))
 
 named : (table : List ℕ) (i : ℕ) → Named (rowAt table i)
 unfolding rowAt

@@ -29,7 +29,7 @@ use Rattle.write.specs.declared.Writer.{Writer}
 use Rattle.write_header.specs.Meanings.{upscopes, remarkOf, timescaleOf, varMeaning, rowMeanings, headerMeanings}
 use Rattle.write_header.specs.Written.{Outcome, poured, misplaced, headerCall}
 use Rattle.write_header.specs.declared.HeaderWritten.{HeaderWritten}
-use Rattle.write_header.proofs.Rows.{row-cases}
+use Rattle.peek.proofs.Peeking.{row-cases}
 
 -- ---- the accepted commands
 abbrev pub countOf : HeaderWritten → ℕ

@@ -1,22 +1,21 @@
 -- The open scopes as a chain of parents in the table itself: what the private functions that judge a table promise.
 use Prim.Native.Nat.{ℕ, zero, suc, _+_, _≤_, _<_}
 use mathlib.Core.Path.{_≡_}
-use mathlib.Core.Bool.{false}
+use mathlib.Core.Bool.{Bool, false, _&&_}
 use mathlib.Core.List.{List, [], _∷_}
+use lib.Dec.{eqb}
 use Rattle.header.specs.Good.{openTo, isGoodFrom}
-use Rattle.header.specs.Rows.{top, parentWord, parentOf, rowAt}
+use Rattle.header.specs.Rows.{top, parentOf, rowAt}
 use Rattle.header.specs.declared.rows.Row.{Row}
+use Rattle.peek.specs.Peek.{kindOf, parentIn}
 use Rattle.write_header.specs.declared.good.Stood.{Stood}
-
--- the parent's word of a row, of none as at top
-abbrev pub parentIn : Row → ℕ
-parentIn (Row.Scope p k t) = parentWord p
-parentIn (Row.Var p v) = parentWord p
-parentIn (Row.Comment p t) = parentWord p
-parentIn Row.None = top
 
 unfoldable pub parentAt : List ℕ → ℕ → ℕ
 parentAt table i = parentIn (rowAt table i)
+
+-- is row i a variable of the scope p?
+abbrev pub isVarOf : List ℕ → ℕ → ℕ → Bool
+isVarOf table i p = eqb (kindOf (rowAt table i)) 2 && eqb (parentAt table i) p
 
 -- d scopes, innermost first, of which the first is `cur` and each next is the parent of the one before
 unfoldable pub chain : List ℕ → ℕ → ℕ → List ℕ

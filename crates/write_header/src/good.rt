@@ -1,12 +1,11 @@
 // What is judged before a header is written: every text lies in the source (25), and the table is good (23).
 use header::Header;
 use header::KeptText;
-use header::Row;
 ghost use mathlib.Core.Path.{_≡_};
 ghost use Prim.Native.Nat.{_≤_, _<_};
 ghost use Rattle.header.specs.Good.{isGoodTable};
-ghost use Rattle.header.specs.Rows.{rowsOf, top};
-ghost use Rattle.write_header.specs.Chain.{parentAt, base, Under, Unwound, Stands};
+ghost use Rattle.header.specs.Rows.{rowAt, rowsOf, top};
+ghost use Rattle.write_header.specs.Chain.{parentAt, isVarOf, base, Under, Unwound, Stands};
 ghost use Rattle.write_header.specs.Written.{misplaced as isMisplaced, keptOutside, rowOutside, someOutside};
 
 const LIMIT: usize = 4294967295;
@@ -42,15 +41,10 @@ fn kept_outside(src: &[u8], k: KeptText) -> bool
     }
 }
 
-fn row_outside(src: &[u8], r: Row) -> bool
-    ensures { λ x. ⌜ x ≡ rowOutside (now (src .entry)) r ⌝ }
+fn row_outside(src: &[u8], rows: &[u64], i: usize) -> bool
+    ensures { λ x. ⌜ x ≡ rowOutside (now (src .entry)) (rowAt (now (rows .entry)) i) ⌝ }
 {
-    match r {
-        Row::Scope(_, _, t) => !text::within(src, t),
-        Row::Var(_, v) => !text::within(src, v.reference),
-        Row::Comment(_, t) => !text::within(src, t),
-        Row::None => false,
-    }
+    !text::within(src, peek::text_at(rows, i))
 }
 
 // Rows past the table's end have no text.
@@ -62,7 +56,7 @@ fn some_outside(src: &[u8], rows: &[u64], count: usize) -> bool
         if rows.len() / header::WORDS <= i {
             return false;
         }
-        if row_outside(src, header::row_at(rows, i)) {
+        if row_outside(src, rows, i) {
             return true;
         }
         i += 1;
@@ -74,12 +68,14 @@ fn some_outside(src: &[u8], rows: &[u64], count: usize) -> bool
 pub fn parent_at(rows: &[u64], i: usize) -> u64
     ensures { λ r. ⌜ r ≡ parentAt (now (rows .entry)) i ⌝ }
 {
-    match header::row_at(rows, i) {
-        Row::Scope(p, _, _) => header::parent_word(p),
-        Row::Var(p, _) => header::parent_word(p),
-        Row::Comment(p, _) => header::parent_word(p),
-        Row::None => header::TOP,
-    }
+    peek::parent_at(rows, i)
+}
+
+// Whether row i is a variable of the scope p.
+pub fn is_var_of(rows: &[u64], i: usize, p: u64) -> bool
+    ensures { λ r. ⌜ r ≡ isVarOf (now (rows .entry)) i p ⌝ }
+{
+    peek::kind_at(rows, i) == 2 && peek::parent_at(rows, i) == p
 }
 
 // The innermost open scope, or TOP, and how many are open. The others are its parent, that one's parent and so on.
@@ -116,25 +112,25 @@ fn stand(rows: &[u64], i: usize, cur: u64, depth: usize) -> Stood
     requires { ⌜ (i < 4096) × (depth ≤ 64) × (base (now rows) cur depth ≡ top) × Under (now rows) cur depth ⌝ }
     ensures { λ r. ⌜ Stands (now (rows .entry)) i cur depth r ⌝ }
 {
+    let kind = peek::kind_at(rows, i);
     let p = parent_at(rows, i);
+    if kind == 0 {
+        return Stood::Off;
+    }
     let spot = unwind(rows, p, cur, depth);
     if spot.cur != p {
         return Stood::Off;
     }
-    match header::row_at(rows, i) {
-        Row::Scope(_, _, _) => {
-            if LEVELS <= spot.depth {
-                return Stood::Off;
-            }
-            Stood::On(Spot {
-                cur: i as u64,
-                depth: spot.depth + 1,
-            })
-        }
-        Row::Var(_, _) => Stood::On(spot),
-        Row::Comment(_, _) => Stood::On(spot),
-        Row::None => Stood::Off,
+    if kind != 1 {
+        return Stood::On(spot);
     }
+    if LEVELS <= spot.depth {
+        return Stood::Off;
+    }
+    Stood::On(Spot {
+        cur: i as u64,
+        depth: spot.depth + 1,
+    })
 }
 
 // 23: the first `n` rows are rows, in tree order, not too many and not too deep.

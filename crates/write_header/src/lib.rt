@@ -13,11 +13,12 @@ use write::Written;
 ghost use mathlib.Core.Path.{_≡_};
 ghost use mathlib.Core.Bool.{true, false};
 ghost use mathlib.Core.List.{[], _∷_};
-ghost use Prim.Native.Nat.{_≤_, _<_};
+ghost use Prim.Native.Nat.{ℕ, _≤_, _<_};
 ghost use lib.ListN.{length};
 ghost use Rattle.command.specs.Meaning.{meaning, date as dateRemark, version as versionRemark};
 ghost use Rattle.header.specs.Good.{isGoodTable};
-ghost use Rattle.header.specs.Rows.{rowsOf};
+ghost use Rattle.header.specs.Rows.{rowAt, rowsOf};
+ghost use Rattle.peek.specs.Peek.{kindOf};
 ghost use Rattle.write.specs.Call.{tooLong, outside, misplaced as isMisplaced};
 ghost use Rattle.write_header.specs.Levels.{Inside, Fits, Closes, WritesItem, WritesScope};
 ghost use Rattle.write_header.specs.Meanings.{keptMeanings, remarkOf, timescaleOf, varMeaning, rowMeanings};
@@ -219,28 +220,52 @@ fn write_item(
                 Wrote::Refused(e, past, v) => Wrote::Refused(e, past, v),
             }
         }
-        Row::Var(_, v) => write_var(w, src, v, i + 1, out, at),
+        Row::Var(_, _) => write_vars(w, src, rows, n, i, out, at),
         Row::Comment(_, t) => write_one(w, src, Command::Comment(t), i + 1, out, at),
         Row::None => Wrote::Refused(Refusal::BadTable, at, w),
     }
+}
+
+// Row `from`, a variable, and those behind it that are variables of the same scope.
+fn write_vars(
+    w: Writer,
+    src: &[u8],
+    rows: &[u64],
+    n: usize,
+    from: usize,
+    out: &mut [u8],
+    at: usize,
+) -> Wrote
+    requires { ⌜ (from < n) × (n ≤ 4096) × (at ≤ length (now out)) × Inside (now src) (now rows) n × (kindOf (rowAt (now rows) from) ≡ 2) ⌝ }
+    ensures { λ r. ⌜ ((levels : ℕ) → WritesItem (now (src .entry)) (now (rows .entry)) n levels from (now (out .entry)) at w r (now (out .exit))) ⌝ }
+{
+    let me = good::parent_at(rows, from);
+    let mut v = w;
+    let mut i = from;
+    let mut place = at;
+    while i < n && good::is_var_of(rows, i, me) {
+        match write_var(v, src, peek::var_at(rows, i), i + 1, out, place) {
+            Wrote::Through(next, past, u) => {
+                i = next;
+                place = past;
+                v = u;
+            }
+            Wrote::Refused(e, past, u) => {
+                return Wrote::Refused(e, past, u);
+            }
+        }
+    }
+    Wrote::Through(i, place, v)
 }
 
 fn write_var(w: Writer, src: &[u8], v: Var, row: usize, out: &mut [u8], at: usize) -> Wrote
     requires { ⌜ (at ≤ length (now out)) × (outside (now src) (v .reference) ≡ false) ⌝ }
     ensures { λ r. ⌜ Writes (now (out .entry)) at w (varMeaning (now (src .entry)) v ∷ []) row r (now (out .exit)) ⌝ }
 {
-    let kind = v.var_type;
-    let code = v.code;
-    let reference = v.reference;
-    let index = v.index;
-    write_one(
-        w,
-        src,
-        Command::VarDef(kind, v.size, code, reference, index),
-        row,
-        out,
-        at,
-    )
+    match w.var(src, v, &mut out[at..]) {
+        Written::Bytes(n, u) => Wrote::Through(row, at + n, u),
+        Written::Refused(e) => Wrote::Refused(e, at, w),
+    }
 }
 
 // The `$upscope` behind a scope's items.

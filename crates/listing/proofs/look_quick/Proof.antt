@@ -2,6 +2,7 @@
 use native.Mathlib.Omega.{arith}
 use mathlib.Core.Path.{refl}
 use denote.Ref.{now}
+use Rattle.text.proofs.Lists.{take-rest}
 use Rattle.brief.specs.Brief.{Tells}
 use Rattle.brief.specs.declared.Brief.the-variants.{Time, Scalar, Vector}
 use Rattle.brief.proofs.Looks.{scalar-first}
@@ -73,11 +74,20 @@ look-value-requires-2 c κs = search needs
 enum-told : tie.Need-enum-told
 enum-told c = search needs
 
+sub-look-plain : tie.Need-sub-look-plain
+sub-look-plain c = search needs
+
+part-look-plain-start : tie.Need-part-look-plain-start
+part-look-plain-start c = search needs
+
+part-look-plain-end : tie.Need-part-look-plain-end
+part-look-plain-end c = search needs
+
 again-requires : tie.Need-again-requires
 again-requires c κs = search needs
 
 look-plain-requires : tie.Need-look-plain-requires
-look-plain-requires c κs = rw (c .again .ensures) (c .before .before .before .before .before .pre)
+look-plain-requires c κs = rw (take-rest (now (c .before .before .before .before .before .before .args .input)) 0, c .again .ensures) (c .before .before .before .before .before .before .pre)
 
 returns : tie.Need-returns
 returns c = rw (time (c .before .before .before) .reads _ (c .before .before .before .before .before .before .before .pre) refl, c .word-read .ensures)
@@ -89,7 +99,7 @@ returns-3 : tie.Need-returns-3
 returns-3 c = rw (vector (c .before .before .before .before .before) .change .reads _ (c .before .before .before .before .before .before .before .before .before .pre) refl, c .look-value2 .ensures, c .before .word-read3 .ensures, c .before .before .before .tell-value2 .ensures)
 
 returns-4 : tie.Need-returns-4
-returns-4 c = rw (c .before .again .ensures) at (c .look-plain .ensures)
+returns-4 c = rw (take-rest (now (c .before .before .before .before .before .before .before .args .input)) 0, c .before .again .ensures) at (c .look-plain .ensures)
 
 pub look-quick-spec : {M : Type 1} → statement M
 look-quick-spec =
@@ -113,6 +123,9 @@ look-quick-spec =
     word-read-requires-3
     look-value-requires-2
     enum-told
+    sub-look-plain
+    part-look-plain-start
+    part-look-plain-end
     again-requires
     look-plain-requires
     returns

@@ -1,5 +1,4 @@
 -- `records::put_command` meets its contract. Assumes nothing.
-use Rattle.header.proofs.Words.{three}
 use borrow.Author.Needs.{needs}
 use Rattle.records.proofs.put_command.Statement.{statement}
 use Rattle.records.proofs.put_command.Tie as tie
@@ -52,23 +51,8 @@ put-plain-requires-2 c κs = search needs
 enum-known-k-6 : tie.Need-enum-known-k-6
 enum-known-k-6 c = search needs
 
-var-number-requires : tie.Need-var-number-requires
-var-number-requires c κs = search needs
-
-cast-put : tie.Need-cast-put
-cast-put c = search needs
-
-index-form-requires : tie.Need-index-form-requires
-index-form-requires c κs = search needs
-
-first-word-requires : tie.Need-first-word-requires
-first-word-requires c κs = search needs
-
-second-word-requires : tie.Need-second-word-requires
-second-word-requires c κs = search needs
-
-put-requires : tie.Need-put-requires
-put-requires c κs = search needs
+put-var-requires : tie.Need-put-var-requires
+put-var-requires c κs = search needs
 
 enum-told-2 : tie.Need-enum-told-2
 enum-told-2 c = search needs
@@ -167,16 +151,7 @@ same-length-7 : tie.Need-same-length-7
 same-length-7 c = search needs
 
 returns-7 : tie.Need-returns-7
-returns-7 c =
-    rw (
-      c .before .before .before .before .before .before .before .before .before .k6 .given .1,
-      three (c .before .before .before .before .before .before .before .before .before .k6 .given .0 .1 .1 .1 .1 .0),
-      ← c .before .before .before .second-word .ensures,
-      ← c .before .before .before .before .first-word .ensures,
-      ← c .before .before .before .before .before .index-form .ensures,
-      ← c .before .before .before .before .before .before .var-number .ensures,
-    )
-    (c .before .before .put .ensures)
+returns-7 c = rw (c .before .before .before .before .before .k6 .given .1) (c .before .before .put-var .ensures)
 
 same-length-8 : tie.Need-same-length-8
 same-length-8 c = search needs
@@ -246,12 +221,7 @@ put-command-spec =
     enum-told
     put-plain-requires-2
     enum-known-k-6
-    var-number-requires
-    cast-put
-    index-form-requires
-    first-word-requires
-    second-word-requires
-    put-requires
+    put-var-requires
     enum-told-2
     put-plain-requires-3
     enum-known-k-7

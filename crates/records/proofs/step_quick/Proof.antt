@@ -1,9 +1,10 @@
 -- `records::step_quick` meets its contract. Assumes nothing.
 use native.Mathlib.Omega.{arith}
-use mathlib.Core.Path.{refl, _∙_}
 use denote.Ref.{now}
+use Rattle.text.proofs.Lists.{take-rest}
 use Rattle.brief.specs.Brief.{Tells}
 use Rattle.brief.specs.declared.Brief.the-variants.{Time, Scalar, Vector}
+use Rattle.records.proofs.Taken.{quick-step}
 use borrow.Author.Needs.{needs}
 use Rattle.records.proofs.step_quick.Statement.{statement}
 use Rattle.records.proofs.step_quick.Tie as tie
@@ -27,12 +28,6 @@ enum-known-t c = search needs
 put-requires : tie.Need-put-requires
 put-requires c κs = search needs
 
-shared-slice-read-word-read : tie.Need-shared-slice-read-word-read
-shared-slice-read-word-read c = time (c .before .before .before .before .before .before) .inside
-
-word-read-requires : tie.Need-word-read-requires
-word-read-requires c κs = omega (arith, time (c .before .before .before .before .before .before) .inside, c .before .before .before .before .before .before .before .before .before .before .before .pre .0)
-
 enum-known-i : tie.Need-enum-known-i
 enum-known-i c = search needs
 
@@ -44,12 +39,6 @@ value-at-requires c κs = search needs
 
 put-requires-2 : tie.Need-put-requires-2
 put-requires-2 c κs = search needs
-
-shared-slice-read-word-read-2 : tie.Need-shared-slice-read-word-read-2
-shared-slice-read-word-read-2 c = scalar (c .before .before .before .before .before .before .before .before) .change .inside
-
-word-read-requires-2 : tie.Need-word-read-requires-2
-word-read-requires-2 c κs = omega (arith, scalar (c .before .before .before .before .before .before .before .before) .change .inside, c .before .before .before .before .before .before .before .before .before .before .before .before .before .pre .0)
 
 enum-known-i-2 : tie.Need-enum-known-i-2
 enum-known-i-2 c = search needs
@@ -63,44 +52,49 @@ sub-len c = omega (arith, vector (c .before) .some)
 put-requires-3 : tie.Need-put-requires-3
 put-requires-3 c κs = search needs
 
-shared-slice-read-word-read-3 : tie.Need-shared-slice-read-word-read-3
-shared-slice-read-word-read-3 c = vector (c .before .before .before .before .before .before) .change .inside
-
-word-read-requires-3 : tie.Need-word-read-requires-3
-word-read-requires-3 c κs = omega (arith, vector (c .before .before .before .before .before .before) .change .inside, c .before .before .before .before .before .before .before .before .before .before .before .pre .0)
-
 enum-told : tie.Need-enum-told
 enum-told c = search needs
+
+sub-step-more : tie.Need-sub-step-more
+sub-step-more c = search needs
+
+part-step-more-start : tie.Need-part-step-more-start
+part-step-more-start c = search needs
+
+part-step-more-end : tie.Need-part-step-more-end
+part-step-more-end c = search needs
 
 again-requires : tie.Need-again-requires
 again-requires c κs = search needs
 
-step-plain-requires : tie.Need-step-plain-requires
-step-plain-requires c κs = rw (c .before .again .ensures) (c .before .before .before .before .before .before .before .pre)
+step-more-requires : tie.Need-step-more-requires
+step-more-requires c κs = rw (take-rest (now (c .before .before .before .before .before .before .before .before .args .input)) 0, c .before .again .ensures) (c .before .before .before .before .before .before .before .before .pre)
 
 same-length : tie.Need-same-length
 same-length c = search needs
 
 returns : tie.Need-returns
-returns c = rw (time (c .before .before .before .before .before .before .before) .reads _ (c .before .before .before .before .before .before .before .before .before .before .before .before .pre .0) refl) (rw (c .word-read .ensures), c .before .before .before .before .put .ensures)
+returns c = quick-step _ _ (c .before .before .before .before .before .before .before .before .before .before .pre .0) _ _ (time (c .before .before .before .before .before)) _ _ _ (c .before .before .put .ensures)
 
 same-length-2 : tie.Need-same-length-2
 same-length-2 c = search needs
 
 returns-2 : tie.Need-returns-2
-returns-2 c = let h = scalar (c .before .before .before .before .before .before .before .before .before) in rw (h .change .reads _ (c .before .before .before .before .before .before .before .before .before .before .before .before .before .before .pre .0) refl) (rw (c .word-read2 .ensures), c .before .before .before .before .put2 .ensures ∙ rw (c .before .before .before .before .before .before .value-at .ensures, h .means))
+returns-2 c =
+    let h = scalar (c .before .before .before .before .before .before .before) in
+    quick-step _ _ (c .before .before .before .before .before .before .before .before .before .before .before .before .pre .0) _ _ (h .change) _ _ _ (rw (c .before .before .before .before .value-at .ensures, h .means) at (c .before .before .put2 .ensures))
 
 same-length-3 : tie.Need-same-length-3
 same-length-3 c = search needs
 
 returns-3 : tie.Need-returns-3
-returns-3 c = rw (vector (c .before .before .before .before .before .before .before) .change .reads _ (c .before .before .before .before .before .before .before .before .before .before .before .before .pre .0) refl) (rw (c .word-read3 .ensures), c .before .before .before .before .put3 .ensures)
+returns-3 c = quick-step _ _ (c .before .before .before .before .before .before .before .before .before .before .pre .0) _ _ (vector (c .before .before .before .before .before) .change) _ _ _ (c .before .before .put3 .ensures)
 
 same-length-4 : tie.Need-same-length-4
 same-length-4 c = search needs
 
 returns-4 : tie.Need-returns-4
-returns-4 c = rw (c .before .before .before .before .again .ensures) at (c .before .before .step-plain .ensures)
+returns-4 c = rw (take-rest (now (c .before .before .before .before .before .before .before .before .before .before .before .args .input)) 0, c .before .before .before .before .again .ensures) at (c .before .before .step-more .ensures)
 
 pub step-quick-spec : {M : Type 1} → statement M
 step-quick-spec =
@@ -109,23 +103,20 @@ step-quick-spec =
     glance-requires
     enum-known-t
     put-requires
-    shared-slice-read-word-read
-    word-read-requires
     enum-known-i
     shared-slice-read-value-at
     value-at-requires
     put-requires-2
-    shared-slice-read-word-read-2
-    word-read-requires-2
     enum-known-i-2
     add-from
     sub-len
     put-requires-3
-    shared-slice-read-word-read-3
-    word-read-requires-3
     enum-told
+    sub-step-more
+    part-step-more-start
+    part-step-more-end
     again-requires
-    step-plain-requires
+    step-more-requires
     same-length
     returns
     same-length-2

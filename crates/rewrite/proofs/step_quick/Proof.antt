@@ -5,7 +5,8 @@ use denote.Ref.{now}
 use Rattle.brief.specs.Brief.{Reads, ReadsScalar, ReadsVector}
 use Rattle.command.specs.declared.Command.{Command}
 use Rattle.text.specs.Texts.{part}
-use Rattle.rewrite.proofs.Usual.{time-steps, scalar-steps, vector-steps}
+use Rattle.text.proofs.Lists.{take-rest}
+use Rattle.rewrite.proofs.Usual.{may-move, time-steps, scalar-steps, vector-steps}
 use Rattle.rewrite.proofs.step_quick.Statement.{statement}
 use Rattle.rewrite.proofs.step_quick.Tie as tie
 
@@ -32,7 +33,7 @@ shared-slice-read-word-read : tie.Need-shared-slice-read-word-read
 shared-slice-read-word-read c = omega (arith, time (c .before .before .before .before .before .before) .inside)
 
 word-read-requires : tie.Need-word-read-requires
-word-read-requires c κs = (omega (arith, time (c .before .before .before .before .before .before) .inside, c .before .before .before .before .before .before .before .before .before .before .before .pre .short), omega (arith, c .before .before .before .before .before .before .before .before .before .before .before .pre .counted, c .before .before .before .before .before .before .before .before .before .before .before .pre .within, c .before .before .before .before .before .before .before .before .before .before .before .pre .short))
+word-read-requires c κs = may-move _ _ (c .before .before .before .before .before .before .before .before .before .before .before .pre) _ (time (c .before .before .before .before .before .before) .inside)
 
 laid-requires : tie.Need-laid-requires
 laid-requires c κs = search needs
@@ -53,7 +54,7 @@ shared-slice-read-word-read-2 : tie.Need-shared-slice-read-word-read-2
 shared-slice-read-word-read-2 c = omega (arith, scalar (c .before .before .before .before .before .before .before .before) .change .inside)
 
 word-read-requires-2 : tie.Need-word-read-requires-2
-word-read-requires-2 c κs = (omega (arith, scalar (c .before .before .before .before .before .before .before .before) .change .inside, c .before .before .before .before .before .before .before .before .before .before .before .before .before .pre .short), omega (arith, c .before .before .before .before .before .before .before .before .before .before .before .before .before .pre .counted, c .before .before .before .before .before .before .before .before .before .before .before .before .before .pre .within, c .before .before .before .before .before .before .before .before .before .before .before .before .before .pre .short))
+word-read-requires-2 c κs = may-move _ _ (c .before .before .before .before .before .before .before .before .before .before .before .before .before .pre) _ (scalar (c .before .before .before .before .before .before .before .before) .change .inside)
 
 laid-requires-2 : tie.Need-laid-requires-2
 laid-requires-2 c κs = search needs
@@ -80,7 +81,7 @@ shared-slice-read-word-read-3 : tie.Need-shared-slice-read-word-read-3
 shared-slice-read-word-read-3 c = omega (arith, vector (c .before .before .before .before .before .before .before) .change .inside)
 
 word-read-requires-3 : tie.Need-word-read-requires-3
-word-read-requires-3 c κs = (omega (arith, vector (c .before .before .before .before .before .before .before) .change .inside, c .before .before .before .before .before .before .before .before .before .before .before .before .pre .short), omega (arith, c .before .before .before .before .before .before .before .before .before .before .before .before .pre .counted, c .before .before .before .before .before .before .before .before .before .before .before .before .pre .within, c .before .before .before .before .before .before .before .before .before .before .before .before .pre .short))
+word-read-requires-3 c κs = may-move _ _ (c .before .before .before .before .before .before .before .before .before .before .before .before .pre) _ (vector (c .before .before .before .before .before .before .before) .change .inside)
 
 laid-requires-3 : tie.Need-laid-requires-3
 laid-requires-3 c κs = search needs
@@ -88,14 +89,23 @@ laid-requires-3 c κs = search needs
 enum-told : tie.Need-enum-told
 enum-told c = search needs
 
+sub-step-more : tie.Need-sub-step-more
+sub-step-more c = search needs
+
+part-step-more-start : tie.Need-part-step-more-start
+part-step-more-start c = search needs
+
+part-step-more-end : tie.Need-part-step-more-end
+part-step-more-end c = search needs
+
 again-requires : tie.Need-again-requires
 again-requires c κs = search needs
 
 state-again-requires : tie.Need-state-again-requires
 state-again-requires c κs = search needs
 
-step-plain-requires : tie.Need-step-plain-requires
-step-plain-requires c κs = rw (c .before .before .again .ensures) (c .before .before .before .before .before .before .before .before .pre)
+step-more-requires : tie.Need-step-more-requires
+step-more-requires c κs = rw (take-rest (now (c .before .before .before .before .before .before .before .before .before .args .input)) 0, c .before .before .again .ensures) (c .before .before .before .before .before .before .before .before .before .pre)
 
 same-length : tie.Need-same-length
 same-length c = search needs
@@ -120,7 +130,9 @@ same-length-4 : tie.Need-same-length-4
 same-length-4 c = search needs
 
 returns-4 : tie.Need-returns-4
-returns-4 c = rw (← c .before .before .before .before .before .again .ensures, ← c .before .before .before .before .state-again .ensures) (c .before .before .step-plain .ensures)
+returns-4 c =
+    rw (← c .before .before .before .before .before .again .ensures, ← c .before .before .before .before .state-again .ensures)
+    (rw (take-rest (now (c .before .before .before .before .before .before .before .before .before .before .before .before .args .input)) 0) at (c .before .before .step-more .ensures))
 
 pub step-quick-spec : {M : Type 1} → statement M
 step-quick-spec =
@@ -149,9 +161,12 @@ step-quick-spec =
     word-read-requires-3
     laid-requires-3
     enum-told
+    sub-step-more
+    part-step-more-start
+    part-step-more-end
     again-requires
     state-again-requires
-    step-plain-requires
+    step-more-requires
     same-length
     returns
     same-length-2

@@ -1,13 +1,12 @@
 -- `text::whitespace_byte` meets its contract. Assumes nothing.
-use mathlib.Core.Path.{sym}
 use borrow.Author.Tests.{ne-eqb}
 use Rattle.text.specs.Bytes.{isBlank}
-use Rattle.text.proofs.Blanks.{solid}
 use Rattle.text.proofs.whitespace_byte.Statement.{statement}
 use Rattle.text.proofs.whitespace_byte.Tie as tie
 
 returns : tie.Need-returns
-returns c = sym (solid _ (c .if1 .taken))
+unfolding isBlank
+returns c = rw (c .if1 .taken)
 
 returns-2 : tie.Need-returns-2
 unfolding isBlank
@@ -19,11 +18,7 @@ returns-3 c = rw (c .if3 .taken)
 
 returns-4 : tie.Need-returns-4
 unfolding isBlank
-returns-4 c = rw (c .if4 .taken)
-
-returns-5 : tie.Need-returns-5
-unfolding isBlank
-returns-5 c = rw (ne-eqb _ _ (c .before .if3 .left), ne-eqb _ _ (c .before .before .if2 .left), ne-eqb _ _ (c .if4 .left))
+returns-4 c = rw (ne-eqb _ _ (c .before .if2 .left), ne-eqb _ _ (c .before .before .if1 .left), ne-eqb _ _ (c .if3 .left))
 
 pub whitespace-byte-spec : {M : Type 1} → statement M
-whitespace-byte-spec = tie.close (tie.spec returns returns-2 returns-3 returns-4 returns-5)
+whitespace-byte-spec = tie.close (tie.spec returns returns-2 returns-3 returns-4)

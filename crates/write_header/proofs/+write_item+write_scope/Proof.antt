@@ -5,11 +5,11 @@ use mathlib.Core.Path.{_≡_, refl, sym, ap, _∙_}
 use native.Mathlib.Omega.{arith}
 use lib.ListN.{length}
 use borrow.Author.Needs.{needs}
-use Rattle.header.specs.Rows.{parentOf}
+use Rattle.peek.specs.Peek.{kindOf}
 use Rattle.write_header.specs.Levels.{Goes}
-use Rattle.write_header.proofs.Items.{leaf, no-row, no-level, not-opened, nested, fits}
-use Rattle.write_header.proofs.Places.{scope-placed, var-placed, comment-placed}
-use Rattle.write_header.proofs.Rows.{here-var, here-comment}
+use Rattle.write_header.proofs.Items.{leaf, no-row, no-level, not-opened, nested, goes-on, goes-out, fits}
+use Rattle.write_header.proofs.Places.{scope-placed, comment-placed}
+use Rattle.write_header.proofs.Rows.{here-comment}
 use borrow.Fn.Kinds.{In}
 use borrow.Fn.PlainCycle.{Measures, is, falls, and}
 use Rattle.write_header.proofs.write_item.Reads as item
@@ -22,7 +22,7 @@ use Rattle.header.proofs.row_at.Reads as row-at-reads
 use Rattle.write_header.proofs.close.Reads as close-reads
 use Rattle.write_header.proofs.good.parent_at.Reads as parent-at-reads
 use Rattle.write_header.proofs.write_one.Reads as write-one-reads
-use Rattle.write_header.proofs.write_var.Reads as write-var-reads
+use Rattle.write_header.proofs.write_vars.Reads as write-vars-reads
 use Rattle.write_header.proofs.+write_item+write_scope.{statement}
 use Rattle.write_header.proofs.+write_item+write_scope.Tie.{close}
 
@@ -59,8 +59,8 @@ item-calls t = (
   scope.Post,
   close-reads.Asked,
   close-reads.Learnt,
-  write-var-reads.Asked,
-  write-var-reads.Learnt,
+  write-vars-reads.Asked,
+  write-vars-reads.Learnt,
 )
 
 abbrev scope-calls : ℕ → scope-lts.Claims
@@ -108,16 +108,13 @@ item-close-requires t c κs =
 item-enum-known-e : (t : ℕ) → item-lts.Need-enum-known-e (item-calls t) (item-at t) item.Post
 item-enum-known-e t c = search needs
 
-item-enum-known-v : (t : ℕ) → item-lts.Need-enum-known-v (item-calls t) (item-at t) item.Post
-item-enum-known-v t c = search needs
+item-enum-told : (t : ℕ) → item-lts.Need-enum-told (item-calls t) (item-at t) item.Post
+item-enum-told t c = search needs
 
-item-add-write-var : (t : ℕ) → item-lts.Need-add-write-var (item-calls t) (item-at t) item.Post
-item-add-write-var t c = search needs
-
-item-write-var-requires : (t : ℕ) → item-lts.Need-write-var-requires (item-calls t) (item-at t) item.Post
-item-write-var-requires t c κs =
-    let p = c .before .before .before .before .before .before .before .before .pre .1 in
-    (p .3, var-placed _ _ _ _ (p .4) (p .0) (sym (c .before .before .before .before .row-at .ensures) ∙ c .before .before .v .given .1))
+item-write-vars-requires : (t : ℕ) → item-lts.Need-write-vars-requires (item-calls t) (item-at t) item.Post
+item-write-vars-requires t c κs =
+    let p = c .before .before .before .before .before .before .before .pre .1 in
+    (p .0, p .1, p .3, p .4, ap kindOf (sym (c .before .before .before .row-at .ensures) ∙ c .before .enum-told .given .1))
 
 item-enum-known-t : (t : ℕ) → item-lts.Need-enum-known-t (item-calls t) (item-at t) item.Post
 item-enum-known-t t c = search needs
@@ -130,8 +127,8 @@ item-write-one-requires-2 t c κs =
     let p = c .before .before .before .before .before .before .before .before .pre .1 in
     (p .3, comment-placed _ _ _ _ (p .4) (p .0) (sym (c .before .before .before .before .row-at .ensures) ∙ c .before .before .t .given .1))
 
-item-enum-told : (t : ℕ) → item-lts.Need-enum-told (item-calls t) (item-at t) item.Post
-item-enum-told t c = search needs
+item-enum-told-2 : (t : ℕ) → item-lts.Need-enum-told-2 (item-calls t) (item-at t) item.Post
+item-enum-told-2 t c = search needs
 
 item-same-length : (t : ℕ) → item-lts.Need-same-length (item-calls t) (item-at t) item.Post
 item-same-length t c = search needs
@@ -158,12 +155,7 @@ item-same-length-3 : (t : ℕ) → item-lts.Need-same-length-3 (item-calls t) (i
 item-same-length-3 t c = search needs
 
 item-returns-4 : (t : ℕ) → item-lts.Need-returns-4 (item-calls t) (item-at t) item.Post
-item-returns-4 t c =
-    let a = c .before .before .before .before .before .before .before .before .before .before .before .args in
-    let l = c .before .before .before .before .before .before .before .before .before .before .before .pre .1 .0 in
-    leaf (a .src .now) (a .rows .now) (a .n) (a .levels) (a .i) (a .out .now) (a .at) (a .w) l _
-    (λ st k g. here-var (a .src .now) (a .rows .now) (a .n) (a .i) st l k g (sym (c .before .before .before .before .before .before .before .row-at .ensures) ∙ c .before .before .before .before .before .v .given .1))
-    (c .before .before .write-var .result) _ (c .before .before .write-var .ensures)
+item-returns-4 t c = c .before .before .write-vars .ensures (c .before .before .before .before .before .before .before .before .before .before .args .levels)
 
 item-same-length-4 : (t : ℕ) → item-lts.Need-same-length-4 (item-calls t) (item-at t) item.Post
 item-same-length-4 t c = search needs
@@ -180,7 +172,7 @@ item-returns-6 : (t : ℕ) → item-lts.Need-returns-6 (item-calls t) (item-at t
 item-returns-6 t c =
     let a = c .before .before .before .before .before .before .args in
     no-row (a .src .now) (a .rows .now) (a .n) (a .levels) (a .i) (a .out .now) (a .at) (a .w) (c .before .before .before .before .before .before .pre .1 .0)
-    (sym (c .before .before .row-at .ensures) ∙ c .enum-told .given .1) _
+    (sym (c .before .before .row-at .ensures) ∙ c .enum-told2 .given .1) _
 
 abbrev Inv : scope-lts.InvT-loop
 Inv src rows n from out₀ at me levels v₀ i₀ place₀ out v i place =
@@ -220,16 +212,16 @@ scope-loop-less t c =
 
 scope-loop-again : (t : ℕ) → scope-lts.Need-loop-again (scope-calls t) (scope-at t) scope.Post Inv μ
 scope-loop-again t c =
-    let l = c .before .before .before .before .before .before .before .before .before .before .loop in
-    let w = rw (c .before .next .given .1) at (c .before .before .before .before .before .write-item .ensures) in (
+    let b = c .before .before .before .before .before in
+    let a = b .before .before .before .before .before .before .before .before .before .args in
+    let l = b .before .before .before .before .before .loop in
+    let w = rw (c .before .next .given .1) at (b .write-item .ensures) in (
       omega (arith, w .0, l .inv .0),
       w .1,
       w .2,
-      c .before .before .before .before .before .write-item .kept .1 .1 .1 .1 .1 .0 ∙ l .inv .3,
-      λ st h k g.
-          let a = l .inv .4 st h k g in
-          let b = w .3 st h (k ∙ ap parentOf (sym (c .before .before .before .before .before .before .before .if1 .left) ∙ c .before .before .before .before .before .before .before .before .parent-at .ensures)) (a .0) in
-          (b .0, a .1 ∙ b .1),
+      b .write-item .kept .1 .1 .1 .1 .1 .0 ∙ l .inv .3,
+      goes-on (a .src .now) (a .rows .now) (a .n) (a .levels) (a .me) (a .from) (a .out .now) (a .at) (a .w) (l .i) (l .out) (l .place) (l .v)
+          (l .inv .4) (sym (b .before .before .before .parent-at .ensures) ∙ b .before .before .if1 .left) _ _ _ _ (w .3),
     )
 
 scope-enum-known-e : (t : ℕ) → scope-lts.Need-enum-known-e (scope-calls t) (scope-at t) scope.Post Inv μ
@@ -240,11 +232,11 @@ scope-same-length-2 t c = search needs
 
 scope-returns-2 : (t : ℕ) → scope-lts.Need-returns-2 (scope-calls t) (scope-at t) scope.Post Inv μ
 scope-returns-2 t c =
-    let l = c .before .before .before .before .before .before .before .before .before .before .loop in
-    let w = rw (c .before .e .given .1) at (c .before .before .before .before .before .write-item .ensures) in
-    λ st h k g.
-    let a = l .inv .4 st h k g in
-    a .1 ∙ w st h (k ∙ ap parentOf (sym (c .before .before .before .before .before .before .before .if1 .left) ∙ c .before .before .before .before .before .before .before .before .parent-at .ensures)) (a .0)
+    let b = c .before .before .before .before .before in
+    let a = b .before .before .before .before .before .before .before .before .before .args in
+    let l = b .before .before .before .before .before .loop in
+    goes-out (a .src .now) (a .rows .now) (a .n) (a .levels) (a .me) (a .from) (a .out .now) (a .at) (a .w) (l .i) (l .out) (l .place) (l .v)
+    (l .inv .4) (sym (b .before .before .before .parent-at .ensures) ∙ b .before .before .if1 .left) _ (rw (c .before .e .given .1) at (b .write-item .ensures))
 
 scope-same-length-3 : (t : ℕ) → scope-lts.Need-same-length-3 (scope-calls t) (scope-at t) scope.Post Inv μ
 scope-same-length-3 t c = search needs
@@ -268,13 +260,12 @@ pub +write-item+write-scope-spec : {M : Type 1} → statement M
     (item-write-scope-requires t)
     (item-close-requires t)
     (item-enum-known-e t)
-    (item-enum-known-v t)
-    (item-add-write-var t)
-    (item-write-var-requires t)
+    (item-enum-told t)
+    (item-write-vars-requires t)
     (item-enum-known-t t)
     (item-add-write-one-2 t)
     (item-write-one-requires-2 t)
-    (item-enum-told t)
+    (item-enum-told-2 t)
     (item-same-length t)
     (item-returns-2 t)
     (item-same-length-2 t)

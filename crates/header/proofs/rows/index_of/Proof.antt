@@ -21,11 +21,11 @@ returns c = rw (c .match .keys1)
 
 returns-2 : tie.Need-returns-2
 unfolding indexOf
-returns-2 c = rw (c .before .match .keys2, c .signed .ensures, signed-held _ (c .before .before .pre .0))
+returns-2 c = rw (c .before .match .keys2, c .signed .ensures, signed-held _)
 
 returns-3 : tie.Need-returns-3
 unfolding indexOf
-returns-3 c = rw (c .before .signed2 .ensures, c .signed3 .ensures, signed-held _ (c .before .before .before .pre .0), signed-held _ (c .before .before .before .pre .1), ne-eqb _ _ (c .before .before .match .rest .0 .1), ne-eqb _ _ (c .before .before .match .rest .1))
+returns-3 c = rw (c .before .signed2 .ensures, c .signed3 .ensures, signed-held _, signed-held _, ne-eqb _ _ (c .before .before .match .rest .0 .1), ne-eqb _ _ (c .before .before .match .rest .1))
 
 pub index-of-spec : {M : Type 1} → statement M
 index-of-spec =

@@ -1,5 +1,7 @@
 -- `header::rows::signed` meets its contract. Assumes nothing.
-use Rattle.header.proofs.Words.{signed-is, lower-fits, lower-narrow, lower-signed}
+use mathlib.Core.Path.{sym}
+use native.Mathlib.Omega.{arith}
+use Rattle.header.proofs.Words.{signed-is, signed-over, lower-fits, lower-narrow, lower-signed}
 use borrow.Author.Needs.{needs}
 use Rattle.header.proofs.rows.signed.Statement.{statement}
 use Rattle.header.proofs.rows.signed.Tie as tie
@@ -10,18 +12,24 @@ cast-result c = search needs
 returns : tie.Need-returns
 returns c = signed-is _
 
+sub-result : tie.Need-sub-result
+sub-result c = search needs
+
+returns-2 : tie.Need-returns-2
+returns-2 c = sym (signed-over _ (c .if2 .taken))
+
 cast-result-2 : tie.Need-cast-result-2
 cast-result-2 c = search needs
 
-sub-result : tie.Need-sub-result
-sub-result c = lower-fits _ (c .if1 .left) (c .before .pre)
+sub-result-2 : tie.Need-sub-result-2
+sub-result-2 c = lower-fits _ (c .before .if1 .left) (omega (arith, c .if2 .left))
 
 cast-result-3 : tie.Need-cast-result-3
-cast-result-3 c = lower-narrow _ (c .if1 .left) (c .before .pre)
+cast-result-3 c = lower-narrow _ (c .before .if1 .left) (omega (arith, c .if2 .left))
 
-returns-2 : tie.Need-returns-2
-returns-2 c = lower-signed _ (c .if1 .left) (c .before .pre)
+returns-3 : tie.Need-returns-3
+returns-3 c = lower-signed _ (c .before .if1 .left) (omega (arith, c .if2 .left))
 
 pub signed-spec : {M : Type 1} → statement M
 signed-spec =
-    tie.close (tie.spec cast-result returns cast-result-2 sub-result cast-result-3 returns-2)
+    tie.close (tie.spec cast-result returns sub-result returns-2 cast-result-2 sub-result-2 cast-result-3 returns-3)

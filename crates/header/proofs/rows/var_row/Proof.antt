@@ -3,7 +3,6 @@ use mathlib.Core.Path.{sym, _∙_}
 use borrow.Author.Tests.{le-leb, lt-leb, lt-ltb, le-ltb, not-true, not-false}
 use native.Mathlib.Omega.{arith}
 use Rattle.header.specs.Rows.{rowOf}
-use Rattle.header.proofs.Words.{index-fits}
 use borrow.Author.Needs.{needs}
 use Rattle.header.proofs.rows.var_row.Statement.{statement}
 use Rattle.header.proofs.rows.var_row.Tie as tie
@@ -30,7 +29,7 @@ cast-variable : tie.Need-cast-variable
 cast-variable c = search needs
 
 index-of-requires : tie.Need-index-of-requires
-index-of-requires c κs = index-fits _ _ _ (sym (c .before .before .is-index .ensures) ∙ not-false _ (c .before .if3 .left))
+index-of-requires c κs = search needs
 
 variable-requires : tie.Need-variable-requires
 variable-requires c κs = search needs

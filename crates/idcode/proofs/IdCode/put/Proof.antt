@@ -1,9 +1,13 @@
 -- `idcode::IdCode::put` meets its contract. Assumes nothing.
+use Prim.Native.Nat.{_≤_}
+use mathlib.Core.Logic.{⊎-elim}
 use native.Mathlib.Omega.{arith}
 use borrow.Author.Needs.{needs}
-use lib.ListN.{length-set}
+use borrow.Author.Tests.{ltb-true, ltb-false}
+use lib.ListN.{length, length-set}
 use Rattle.text.proofs.Rows.{Copied, copy-start, copy-length, no-room}
 use Rattle.idcode.specs.Id.{idText}
+use Rattle.idcode.proofs.Laws.{text-length}
 use Rattle.idcode.proofs.Spelling.{Spelling, spell-start, inside, spell-more, copy-next, copied}
 use Rattle.idcode.proofs.IdCode.put.Statement.{statement}
 use Rattle.idcode.proofs.IdCode.put.Tie as tie
@@ -15,10 +19,15 @@ abbrev μ-loop : tie.MeasureT-loop
 μ-loop out₀ rest₀ n₀ out rest n = rest
 
 returns : tie.Need-returns Inv-loop μ-loop
-returns c = no-room (idText (c .before .before .before .args .self .0)) _ (omega arith)
+returns c = no-room (idText (c .before .before .before .before .args .self .0)) _ (omega (arith, ltb-true, c .before .len .ensures))
 
 loop-holds : tie.Need-loop-holds Inv-loop μ-loop
-loop-holds c = (spell-start (c .before .before .before .args .self .0) (omega arith), copy-start _ _ (omega arith))
+loop-holds c =
+    let x = c .before .before .args in
+    let short = text-length (x .self .0) (omega arith) in
+    let room : length (idText (x .self .0)) ≤ length (x .out .now) =
+    ⊎-elim (λ w. omega (arith, ltb-false, w .2 .left, w .1 .ensures)) (λ w. omega (arith, w .left)) (c .if1 .came) in
+    (spell-start (x .self .0) (omega arith), copy-start _ _ room)
 
 slice-write-out : tie.Need-slice-write-out Inv-loop μ-loop
 slice-write-out c = let i = c .loop .inv in omega (arith, inside _ _ _ (i .0), copy-length _ _ _ _ (i .1))
@@ -30,10 +39,10 @@ same-length : tie.Need-same-length Inv-loop μ-loop
 same-length c = simp length-set (copy-length _ _ _ _ (c .before .loop .inv .1))
 
 returns-2 : tie.Need-returns-2 Inv-loop μ-loop
-returns-2 c = let i = c .before .loop .inv in copied _ _ _ (i .0) (i .1) (c .if2 .taken)
+returns-2 c = let i = c .before .loop .inv in copied _ _ _ (i .0) (i .1) (omega arith)
 
 loop-again : tie.Need-loop-again Inv-loop μ-loop
-loop-again c = let i = c .before .loop .inv in (spell-more _ _ _ (i .0) (c .if2 .left), copy-next _ _ _ (i .0) (i .1))
+loop-again c = let i = c .before .loop .inv in (spell-more _ _ _ (i .0) (omega arith), copy-next _ _ _ (i .0) (i .1))
 
 pub put-spec : {M : Type 1} → statement M
 put-spec =
@@ -44,7 +53,7 @@ put-spec =
     (λ c κs. search needs)
     returns
     loop-holds
-    (λ c. search needs) (λ c. search needs)
+    (λ c. record { fits = omega (arith, c .loop .inv .0 .small) }) (λ c. search needs) (λ c. search needs) (λ c. search needs)
     slice-write-out
     add-n
     same-length

@@ -34,7 +34,7 @@ unfolding call
 returns-4 c = not-writable _ _ _ _ _ (sym (c .before .before .before .before .before .before .before .outside .ensures) ∙ c .before .before .before .before .before .before .if1 .left) (rw (eq-eqb _ _ (c .if4 .taken)) (and-false (isId (c .before .before .before .before .before .before .before .before .before .before .args .id) && isName (part (now (c .before .before .before .before .before .before .before .before .before .before .args .src)) (c .before .before .before .before .before .before .before .before .before .before .args .reference)))))
 
 returns-5 : tie.Need-returns-5
-unfolding call stateAfter
+unfolding call stateAfter layout
 returns-5 c =
     let x = c .before .before .before .before .before .before .before .before .before .before .before .before .before .before .before .before .before .before .args in
     laid-out _ _ _ _ _ (sym (c .before .before .before .before .before .before .before .before .before .before .before .before .before .before .before .outside .ensures) ∙ c .before .before .before .before .before .before .before .before .before .before .before .before .before .before .if1 .left)

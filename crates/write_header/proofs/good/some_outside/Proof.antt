@@ -2,10 +2,9 @@
 use Prim.Native.Nat.{_-_, _≤_}
 use mathlib.Core.Path.{_≡_, sym, ap, _∙_}
 use native.Mathlib.Omega.{arith}
-use borrow.Author.Needs.{needs}
 use Rattle.header.specs.Rows.{rowsOf}
 use Rattle.write_header.specs.Levels.{rest}
-use Rattle.write_header.specs.Written.{someOutside, rowOutside}
+use Rattle.write_header.specs.Written.{someOutside}
 use Rattle.write_header.proofs.Rows.{rest-all}
 use Rattle.write_header.proofs.Places.{outside-past, outside-here, outside-more, outside-end}
 use borrow.Author.Needs.{needs}
@@ -24,17 +23,14 @@ loop-holds c = (omega arith, ap (someOutside _) (sym (rest-all _ _)))
 returns : tie.Need-returns Inv-loop μ-loop
 returns c = let l = c .before .before .loop in sym (l .inv .1 ∙ outside-past _ _ _ _ (c .if1 .taken))
 
-row-at-requires : tie.Need-row-at-requires Inv-loop μ-loop
-row-at-requires c κs = search needs
-
 row-outside-requires : tie.Need-row-outside-requires Inv-loop μ-loop
 row-outside-requires c κs = search needs
 
 returns-2 : tie.Need-returns-2 Inv-loop μ-loop
 returns-2 c =
-    let l = c .before .before .before .before .before .loop in
-    let e = ap (rowOutside _) (sym (c .before .before .row-at .ensures)) ∙ sym (c .before .row-outside .ensures) ∙ c .if2 .taken in
-    sym (l .inv .1 ∙ outside-here _ _ _ _ (c .before .before .before .before .loop-test .taken) e)
+    let l = c .before .before .before .before .loop in
+    let e = sym (c .before .row-outside .ensures) ∙ c .if2 .taken in
+    sym (l .inv .1 ∙ outside-here _ _ _ _ (c .before .before .before .loop-test .taken) e)
 
 add-i : tie.Need-add-i Inv-loop μ-loop
 add-i c = search needs
@@ -44,9 +40,9 @@ loop-less c = search needs
 
 loop-again : tie.Need-loop-again Inv-loop μ-loop
 loop-again c =
-    let l = c .before .before .before .before .before .loop in
-    let e = ap (rowOutside _) (sym (c .before .before .row-at .ensures)) ∙ sym (c .before .row-outside .ensures) ∙ c .if2 .left in
-    (omega arith, l .inv .1 ∙ outside-more _ _ _ _ (c .before .before .before .before .loop-test .taken) e)
+    let l = c .before .before .before .before .loop in
+    let e = sym (c .before .row-outside .ensures) ∙ c .if2 .left in
+    (omega arith, l .inv .1 ∙ outside-more _ _ _ _ (c .before .before .before .loop-test .taken) e)
 
 returns-3 : tie.Need-returns-3 Inv-loop μ-loop
 returns-3 c = let l = c .before .loop in sym (l .inv .1 ∙ outside-end _ _ _ _ (l .inv .0) (c .loop-test .left))
@@ -59,7 +55,6 @@ some-outside-spec =
     μ-loop
     loop-holds
     returns
-    row-at-requires
     row-outside-requires
     returns-2
     add-i

@@ -1,26 +1,25 @@
--- `write::lay_var` meets its contract. Assumes nothing.
+-- `define::lay_near` meets its contract. Assumes nothing.
 use Rattle.scope.specs.Types.{varName}
 use borrow.Author.Needs.{needs}
 use Rattle.text.specs.Bytes.{bytes}
 use Rattle.idcode.specs.Id.{idText}
 use Rattle.number.specs.Decimal.{decimalOf}
-use Rattle.write.specs.Layout.{layout, indexed}
+use Rattle.define.specs.Define.{indexed}
 use Rattle.lay.proofs.Storing.{row-text}
-use Rattle.write.proofs.lay_var.Statement.{statement}
-use Rattle.write.proofs.lay_var.Tie as tie
+use Rattle.define.proofs.lay_near.Statement.{statement}
+use Rattle.define.proofs.lay_near.Tie as tie
 
 returns : tie.Need-returns
-unfolding layout
 returns c =
     let x = c .before .before .before .before .before .before .before .before .before .before .before .before .before .before .before .before .before .before .before .before .before .before .args in
-    let kind = row-text (bytes (varName (x .var-type))) (c .before .before .before .before .before .before .before .before .before .before .before .before .before .before .before .before .before .before .before .spell .ensures) (c .before .before .before .before .before .before .before .before .before .before .front .ensures) in
+    let kind = row-text (bytes (varName (x .t))) (c .before .before .before .before .before .before .before .before .before .before .before .before .before .before .before .before .before .before .before .spell .ensures) (c .before .before .before .before .before .before .before .before .before .before .front .ensures) in
     let width = row-text (decimalOf (x .width)) (c .before .before .before .before .before .before .before .before .before .before .before .before .before .before .before .before .before .decimal .ensures) (c .before .before .before .before .before .before .before .before .front2 .ensures) in
     let id = row-text (idText (x .id .0)) (c .before .before .before .before .before .before .before .before .before .before .before .before .before .before .before .spell2 .ensures) (c .before .before .before .before .before .before .front3 .ensures) in
-    let index = row-text (indexed (x .index)) (c .before .before .before .before .before .before .before .before .before .before .before .before .before .indexed .ensures) (c .before .before .before .before .front4 .ensures) in
+    let index = row-text (indexed (x .x)) (c .before .before .before .before .before .before .before .before .before .before .before .before .before .indexed .ensures) (c .before .before .before .before .front4 .ensures) in
     rw (kind, width, id, index) at (c .before .before .lay-var .ensures)
 
-pub lay-var-spec : {M : Type 1} → statement M
-lay-var-spec =
+pub lay-near-spec : {M : Type 1} → statement M
+lay-near-spec =
     tie.close
     (tie.spec
     (λ c κs. search needs) (λ c κs. search needs) (λ c κs. search needs) (λ c κs. search needs) (λ c. search needs)

@@ -1,12 +1,12 @@
--- `write::indexed` meets its contract. Assumes nothing.
+-- `define::indexed` meets its contract. Assumes nothing.
 use mir.Val.{SFits}
 use Rattle.scope.specs.declared.ReferenceIndex.{ReferenceIndex}
 use borrow.Author.Needs.{needs}
 use mir.Syntax.{w32}
 use mir.ValLaws.{toZ-ofZ}
-use Rattle.write.proofs.Spelling.{spaced-index}
-use Rattle.write.proofs.indexed.Statement.{statement}
-use Rattle.write.proofs.indexed.Tie as tie
+use Rattle.define.proofs.Spelling.{spaced-index}
+use Rattle.define.proofs.indexed.Statement.{statement}
+use Rattle.define.proofs.indexed.Tie as tie
 
 returns : tie.Need-returns
 returns c = rw (c .before .before .enum-told .given .1) (c .spell .ensures)

@@ -1,8 +1,8 @@
--- `write::spaced` meets its contract. Assumes nothing.
+-- `define::spaced` meets its contract. Assumes nothing.
 use borrow.Author.Needs.{needs}
-use Rattle.write.proofs.Spelling.{spaced-text}
-use Rattle.write.proofs.spaced.Statement.{statement}
-use Rattle.write.proofs.spaced.Tie as tie
+use Rattle.define.proofs.Spelling.{spaced-text}
+use Rattle.define.proofs.spaced.Statement.{statement}
+use Rattle.define.proofs.spaced.Tie as tie
 
 returns : tie.Need-returns
 returns c = spaced-text _ (c .before .spell .ensures) (c .join .ensures)

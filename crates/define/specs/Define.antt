@@ -1,0 +1,29 @@
+-- The text of a variable's definition, and what the parts put.
+use Prim.Native.Nat.{ℕ, _+_}
+use mathlib.Core.Path.{_≡_}
+use mathlib.Core.List.{List, [], _∷_, _++_}
+use lib.ListN.{length}
+use Rattle.text.specs.Bytes.{bytes}
+use Rattle.number.specs.Decimal.{decimalOf}
+use Rattle.idcode.specs.Id.{idText}
+use Rattle.idcode.specs.declared.IdCode.{IdCode}
+use Rattle.scope.specs.Index.{indexText}
+use Rattle.scope.specs.Types.{varName}
+use Rattle.scope.specs.declared.ReferenceIndex.{ReferenceIndex}
+use Rattle.scope.specs.declared.VarType.{VarType}
+use Rattle.lay.specs.Put.{concat, stored}
+
+-- an index stands behind a space
+abbrev pub indexed : ReferenceIndex → List ℕ
+indexed ReferenceIndex.None = []
+indexed (ReferenceIndex.BitSelect a) = bytes " " ++ indexText (ReferenceIndex.BitSelect a)
+indexed (ReferenceIndex.Range a b) = bytes " " ++ indexText (ReferenceIndex.Range a b)
+
+abbrev pub varText : VarType → ℕ → IdCode → List ℕ → ReferenceIndex → List ℕ
+varText k n i t x =
+    concat
+    (bytes "$var " ∷ bytes (varName k) ∷ bytes " " ∷ decimalOf n ∷ bytes " " ∷ idText (i .0) ∷ bytes " " ∷ t ∷ indexed x ∷ bytes " $end\n" ∷ [])
+
+-- the text w was put into the output o from `at` on, and r is the place behind it
+abbrev pub Puts : List ℕ → ℕ → List ℕ → ℕ → List ℕ → Type 0
+Puts o at w r o′ = (r ≡ at + length w) × (o′ ≡ stored o at w)

@@ -1,0 +1,206 @@
+// A variable's definition laid out at the start of an output: a part of the writer.
+use idcode::IdCode;
+use scope::ReferenceIndex;
+use scope::VarType;
+use text::Placed;
+use text::Spelled;
+ghost use mathlib.Core.Path.{_≡_};
+ghost use mathlib.Core.List.{[], _∷_, _++_};
+ghost use Prim.Native.Nat.{_+_, _≤_};
+ghost use lib.ListN.{length, take};
+ghost use Rattle.text.specs.Bytes.{bytes};
+ghost use Rattle.text.specs.Texts.{putAnswer, putBytes, spelled, textIn};
+ghost use Rattle.number.specs.Decimal.{decimalOf, signedOf};
+ghost use Rattle.idcode.specs.Id.{idText};
+ghost use Rattle.scope.specs.Types.{varName};
+ghost use Rattle.define.specs.Define.{indexed as indexedText, varText, Puts};
+
+// Type, width, id and index of a definition, with what stands round them, have no more bytes than this.
+const MOST: usize = 96;
+
+// A definition: type, width, id, name and index.
+pub fn lay_var(
+    t: VarType,
+    width: u32,
+    id: IdCode,
+    name: &[u8],
+    x: ReferenceIndex,
+    out: &mut [u8],
+) -> Placed
+    ensures { λ r. ⌜ (r ≡ putAnswer (varText t width id (now (name .entry)) x) (now (out .entry))) × (now (out .exit) ≡ putBytes (varText t width id (now (name .entry)) x) (now (out .entry))) ⌝ }
+{
+    if out.len() < MOST || out.len() - MOST < name.len() {
+        return lay_near(t, width, id, &name[0..], x, out);
+    }
+    Placed::Count(put_var(t, width, id, name, x, out))
+}
+
+// Where there may be no room, the words are made first.
+fn lay_near(
+    t: VarType,
+    width: u32,
+    id: IdCode,
+    name: &[u8],
+    x: ReferenceIndex,
+    out: &mut [u8],
+) -> Placed
+    ensures { λ r. ⌜ (r ≡ putAnswer (varText t width id (now (name .entry)) x) (now (out .entry))) × (now (out .exit) ≡ putBytes (varText t width id (now (name .entry)) x) (now (out .entry))) ⌝ }
+{
+    let k = t.spell();
+    let kind = k.bytes;
+    let n = number::decimal(width as u64);
+    let digits = n.bytes;
+    let i = id.spell();
+    let code = i.bytes;
+    let y = indexed(x);
+    let place = y.bytes;
+    lay::lay_var(
+        lay::front(&kind, k.len),
+        lay::front(&digits, n.len),
+        lay::front(&code, i.len),
+        name,
+        lay::front(&place, y.len),
+        out,
+    )
+}
+
+// A short text with a space before it.
+fn spaced(t: Spelled) -> Spelled
+    ensures { λ r. ⌜ r ≡ spelled (take 32 (bytes " " ++ textIn t)) ⌝ }
+{
+    text::join(text::spell(b" "), t)
+}
+
+// An index's text with a space before it.
+fn indexed(x: ReferenceIndex) -> Spelled
+    ensures { λ r. ⌜ r ≡ spelled (indexedText x) ⌝ }
+{
+    match x {
+        ReferenceIndex::None => text::spell(b""),
+        ReferenceIndex::BitSelect(n) => spaced(ReferenceIndex::BitSelect(n).spell()),
+        ReferenceIndex::Range(msb, lsb) => spaced(ReferenceIndex::Range(msb, lsb).spell()),
+    }
+}
+
+// The words one behind the other.
+fn put_var(
+    t: VarType,
+    width: u32,
+    id: IdCode,
+    name: &[u8],
+    x: ReferenceIndex,
+    out: &mut [u8],
+) -> usize
+    requires { ⌜ length (varText t width id (now name) x) ≤ length (now out) ⌝ }
+    ensures { λ r. ⌜ Puts (now (out .entry)) 0 (varText t width id (now (name .entry)) x) r (now (out .exit)) ⌝ }
+{
+    let n = put_four(out, 0, b'$', b'v', b'a', b'r');
+    let n = put_byte(out, n, b' ');
+    let n = put_type(out, n, t);
+    let n = put_byte(out, n, b' ');
+    let n = put_number(out, n, width as u64);
+    let n = put_byte(out, n, b' ');
+    let n = put_id(out, n, id);
+    let n = put_byte(out, n, b' ');
+    let n = lay::put(out, n, name);
+    let n = put_index(out, n, x);
+    let n = put_four(out, n, b' ', b'$', b'e', b'n');
+    let n = put_byte(out, n, b'd');
+    put_byte(out, n, b'\n')
+}
+
+fn put_byte(out: &mut [u8], at: usize, b: u8) -> usize
+    requires { ⌜ at + 1 ≤ length (now out) ⌝ }
+    ensures { λ r. ⌜ Puts (now (out .entry)) at (b ∷ []) r (now (out .exit)) ⌝ }
+{
+    out[at] = b;
+    at + 1
+}
+
+fn put_four(out: &mut [u8], at: usize, a: u8, b: u8, c: u8, d: u8) -> usize
+    requires { ⌜ at + 4 ≤ length (now out) ⌝ }
+    ensures { λ r. ⌜ Puts (now (out .entry)) at (a ∷ b ∷ c ∷ d ∷ []) r (now (out .exit)) ⌝ }
+{
+    out[at] = a;
+    out[at + 1] = b;
+    out[at + 2] = c;
+    out[at + 3] = d;
+    at + 4
+}
+
+// The two usual types are put byte by byte.
+fn put_type(out: &mut [u8], at: usize, t: VarType) -> usize
+    requires { ⌜ at + length (bytes (varName t)) ≤ length (now out) ⌝ }
+    ensures { λ r. ⌜ Puts (now (out .entry)) at (bytes (varName t)) r (now (out .exit)) ⌝ }
+{
+    match t {
+        VarType::Wire => put_four(out, at, b'w', b'i', b'r', b'e'),
+        VarType::Reg => {
+            let n = put_byte(out, at, b'r');
+            let n = put_byte(out, n, b'e');
+            put_byte(out, n, b'g')
+        }
+        _ => {
+            let k = t.spell();
+            let kind = k.bytes;
+            lay::put(out, at, lay::front(&kind, k.len))
+        }
+    }
+}
+
+fn put_number(out: &mut [u8], at: usize, n: u64) -> usize
+    requires { ⌜ at + length (decimalOf n) ≤ length (now out) ⌝ }
+    ensures { λ r. ⌜ Puts (now (out .entry)) at (decimalOf n) r (now (out .exit)) ⌝ }
+{
+    if n < 10 {
+        return put_byte(out, at, 48 + n as u8);
+    }
+    match number::put_decimal(n, &mut out[at..]) {
+        Placed::Count(k) => at + k,
+        Placed::NoRoom => at,
+    }
+}
+
+fn put_id(out: &mut [u8], at: usize, id: IdCode) -> usize
+    requires { ⌜ at + length (idText (id .0)) ≤ length (now out) ⌝ }
+    ensures { λ r. ⌜ Puts (now (out .entry)) at (idText (id .0)) r (now (out .exit)) ⌝ }
+{
+    match id.put(&mut out[at..]) {
+        Placed::Count(k) => at + k,
+        Placed::NoRoom => at,
+    }
+}
+
+fn put_index(out: &mut [u8], at: usize, x: ReferenceIndex) -> usize
+    requires { ⌜ at + length (indexedText x) ≤ length (now out) ⌝ }
+    ensures { λ r. ⌜ Puts (now (out .entry)) at (indexedText x) r (now (out .exit)) ⌝ }
+{
+    match x {
+        ReferenceIndex::None => at,
+        ReferenceIndex::BitSelect(a) => {
+            let n = put_byte(out, at, b' ');
+            let n = put_byte(out, n, b'[');
+            let n = put_signed(out, n, a);
+            put_byte(out, n, b']')
+        }
+        ReferenceIndex::Range(a, b) => {
+            let n = put_byte(out, at, b' ');
+            let n = put_byte(out, n, b'[');
+            let n = put_signed(out, n, a);
+            let n = put_byte(out, n, b':');
+            let n = put_signed(out, n, b);
+            put_byte(out, n, b']')
+        }
+    }
+}
+
+fn put_signed(out: &mut [u8], at: usize, a: i32) -> usize
+    requires { ⌜ at + length (signedOf a) ≤ length (now out) ⌝ }
+    ensures { λ r. ⌜ Puts (now (out .entry)) at (signedOf a) r (now (out .exit)) ⌝ }
+{
+    if 0 <= a {
+        return put_number(out, at, a as u64);
+    }
+    let n = put_byte(out, at, b'-');
+    put_number(out, n, (0 - (a as i64)) as u64)
+}

@@ -1,0 +1,17 @@
+-- `parser::quick::number_end` meets its contract. Assumes nothing.
+use mathlib.Core.Path.{sym, _∙_}
+use borrow.Author.Needs.{needs}
+use Rattle.parser.proofs.quick.number_end.Statement.{statement}
+use Rattle.parser.proofs.quick.number_end.Tie as tie
+
+whitespace-byte-requires : tie.Need-whitespace-byte-requires
+whitespace-byte-requires c κs = search needs
+
+returns : tie.Need-returns
+returns c = rw (sym (c .before .whitespace-byte .ensures) ∙ c .if1 .taken)
+
+returns-2 : tie.Need-returns-2
+returns-2 c = rw (sym (c .before .whitespace-byte .ensures) ∙ c .if1 .left)
+
+pub number-end-spec : {M : Type 1} → statement M
+number-end-spec = tie.close (tie.spec whitespace-byte-requires returns returns-2)
