@@ -1,7 +1,7 @@
 -- Texts put one behind the other into an output, a text that a call puts into the bytes behind a place, and how long a definition is.
 -- Assumes nothing.
-use Prim.Native.Nat.{ℕ, _+_, _-_, _^_, _≤_, _<_}
-use mathlib.Core.Path.{_≡_, refl, ap, subst, _∙_}
+use Prim.Native.Nat.{ℕ, _+_, _-_, _/_, _%_, _^_, _≤_, _<_}
+use mathlib.Core.Path.{_≡_, refl, sym, ap, subst, _∙_}
 use mathlib.Core.List.{List, [], _∷_, _++_}
 use native.Mathlib.Nat.{zero-add}
 use native.Mathlib.Omega.{arith}
@@ -15,7 +15,7 @@ use Rattle.text.specs.Bytes.{bytes}
 use Rattle.text.specs.Texts.{putAnswer, putBytes}
 use Rattle.text.specs.declared.Placed.{Placed}
 use Rattle.number.specs.Decimal.{decimalOf}
-use Rattle.number.proofs.Writing.{short}
+use Rattle.number.proofs.Writing.{one-digit, more-digits, short}
 use Rattle.idcode.specs.Id.{idText}
 use Rattle.idcode.specs.declared.IdCode.{IdCode}
 use Rattle.idcode.proofs.Laws.{text-length}
@@ -36,6 +36,10 @@ pub both : (o : List ℕ) (at : ℕ) (w v : List ℕ) {u o′ o″ : List ℕ} {
 both o at w v {u} {o′} {o″} {r} {r′} e h p q =
     subst (λ (l : List ℕ). Puts o at l r′ o″) e
     (omega (arith, p .0, q .0, length-append w v), q .1 ∙ rw (p .0, p .1) (stored-next o at (omega arith) w v))
+
+-- a number of two digits
+pub two-digits : (n : ℕ) → 10 ≤ n → n < 100 → ((48 + n / 10) ∷ []) ++ ((48 + n % 10) ∷ []) ≡ decimalOf n
+two-digits n l u = sym (more-digits n l ∙ ap (λ (w : List ℕ). w ++ ((48 + n % 10) ∷ [])) (one-digit (n / 10) (omega arith)))
 
 -- ---- what is still to be put: once `rest` is put behind n, `whole` stands from `at` on
 pub record Due (o : List ℕ) (at : ℕ) (whole rest : List ℕ) (n : ℕ) (o′ : List ℕ) : Type 0 where

@@ -29,7 +29,10 @@ pub fn lay_var(
 ) -> Placed
     ensures { λ r. ⌜ (r ≡ putAnswer (varText t width id (now (name .entry)) x) (now (out .entry))) × (now (out .exit) ≡ putBytes (varText t width id (now (name .entry)) x) (now (out .entry))) ⌝ }
 {
-    if out.len() < MOST || out.len() - MOST < name.len() {
+    if out.len() < MOST {
+        return lay_near(t, width, id, &name[0..], x, out);
+    }
+    if out.len() - MOST < name.len() {
         return lay_near(t, width, id, &name[0..], x, out);
     }
     Placed::Count(put_var(t, width, id, name, x, out))
@@ -154,6 +157,10 @@ fn put_number(out: &mut [u8], at: usize, n: u64) -> usize
 {
     if n < 10 {
         return put_byte(out, at, 48 + n as u8);
+    }
+    if n < 100 {
+        let o = put_byte(out, at, 48 + (n / 10) as u8);
+        return put_byte(out, o, 48 + (n % 10) as u8);
     }
     match number::put_decimal(n, &mut out[at..]) {
         Placed::Count(k) => at + k,

@@ -18,7 +18,7 @@ use Rattle.scope.specs.declared.ReferenceIndex.{ReferenceIndex}
 use Rattle.scope.specs.declared.ScopeType.{ScopeType}
 use Rattle.text.specs.declared.Text.{Text}
 use Rattle.text.proofs.Lists.{by-test, both}
-use Rattle.peek.specs.Peek.{kindOf, textIn, parentIn, variable, varIn}
+use Rattle.peek.specs.Peek.{kindOf, parentIn, variable, varIn}
 
 -- the word of the parent that a word is
 pub word-of : (w : ℕ) → parentWord (parentOf w) ≡ w
@@ -72,15 +72,15 @@ module _ (table : List ℕ) (i : ℕ) where
   word j = getD table (10 * i + j) 0
 
   -- where there is none
-  pub no-row : kindOf (rowAt table i) ≡ 0 → (parentIn (rowAt table i) ≡ top) × (textIn (rowAt table i) ≡ textAt 0 0)
-  no-row e = let x = none-kind (rowAt table i) e in (ap parentIn x, ap textIn x)
+  pub no-row : kindOf (rowAt table i) ≡ 0 → parentIn (rowAt table i) ≡ top
+  no-row e = ap parentIn (none-kind (rowAt table i) e)
 
   pub no-var : (kindOf (rowAt table i) ≡ 2 → ⊥) → varIn (rowAt table i) ≡ variable 0 0 0 (textAt 0 0) ReferenceIndex.None
   no-var f = no-var-in (rowAt table i) f
 
   -- where there is one
   abbrev Told : Row → Type 0
-  Told r = (kindOf r ≡ 0 → ⊥) → (i < length table / 10) × (parentIn r ≡ word 1) × (textIn r ≡ textAt (word 5) (word 6))
+  Told r = (kindOf r ≡ 0 → ⊥) → (i < length table / 10) × (parentIn r ≡ word 1)
 
   abbrev ToldVar : Row → Type 0
   ToldVar r =
@@ -95,7 +95,7 @@ module _ (table : List ℕ) (i : ℕ) where
       (λ e.
       let l = ltb-true i (length table / 10) e in
       let x = word-of (word 1) in
-      rw e (row-cases Told _ _ _ _ _ _ _ _ _ _ (λ _. (l, x, refl)) (λ _ _ _. (l, x, refl)) (λ _. (l, x, refl)) (λ f. absurd (f refl))))
+      rw e (row-cases Told _ _ _ _ _ _ _ _ _ _ (λ _. (l, x)) (λ _ _ _. (l, x)) (λ _. (l, x)) (λ f. absurd (f refl))))
       (λ e. rw e (λ f. absurd (f refl)))
 
   pub told-var : ToldVar (rowAt table i)

@@ -12,12 +12,6 @@ kindOf (Row.Var p v) = 2
 kindOf (Row.Comment p t) = 3
 kindOf Row.None = 0
 
-abbrev pub textIn : Row → Text
-textIn (Row.Scope p k t) = t
-textIn (Row.Var p v) = v .reference
-textIn (Row.Comment p t) = t
-textIn Row.None = textAt 0 0
-
 -- the parent's word, of none as at top
 abbrev pub parentIn : Row → ℕ
 parentIn (Row.Scope p k t) = parentWord p

@@ -8,7 +8,7 @@ use text::Text;
 ghost use mathlib.Core.Path.{_≡_};
 ghost use Prim.Native.Nat.{ℕ};
 ghost use Rattle.header.specs.Rows.{rowAt, rowOf};
-ghost use Rattle.peek.specs.Peek.{kindOf, textIn, parentIn, varIn, variable as variableOf};
+ghost use Rattle.peek.specs.Peek.{kindOf, parentIn, varIn, variable as variableOf};
 
 // The kind of row `i`: 1 a scope, 2 a variable, 3 a comment; 0 where there is none.
 pub fn kind_at(rows: &[u64], i: usize) -> u64
@@ -51,20 +51,6 @@ fn kind_of(k: u64, t: u64, w: u64, c: u64, f: u64, a: u64, b: u64) -> u64
         3
     } else {
         0
-    }
-}
-
-// The text of row `i`; an empty one at the start where there is none.
-pub fn text_at(rows: &[u64], i: usize) -> Text
-    ensures { λ r. ⌜ r ≡ textIn (rowAt (now (rows .entry)) i) ⌝ }
-{
-    if kind_at(rows, i) == 0 {
-        return Text { start: 0, len: 0 };
-    }
-    let at = header::WORDS * i;
-    Text {
-        start: rows[at + 5] as usize,
-        len: rows[at + 6] as usize,
     }
 }
 

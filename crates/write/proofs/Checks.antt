@@ -18,7 +18,7 @@ use Rattle.text.specs.declared.Text.{Text}
 use Rattle.text.proofs.Blanks.{solid}
 use Rattle.text.proofs.Has.{each-not}
 use Rattle.text.proofs.Lists.{by-test, drop-step}
-use Rattle.text.proofs.WellFormed.{AsWhole, ascii-passed, empty-valid}
+use Rattle.text.proofs.WellFormed.{ascii-first, empty-valid}
 use Rattle.value.specs.Values.{isValue, areValues, lower}
 use Rattle.value.proofs.Values.{by-value}
 use Rattle.write.specs.Call.{tooLong, outside}
@@ -71,16 +71,28 @@ module _ (s : List ℕ) (i : ℕ) where
   unfolding noBlank
   blank-done h = rw (drop-of-length-le s h)
 
--- ---- plain bytes before the place i: what is left decides
-abbrev pub Plain : List ℕ → ℕ → Type 0
-Plain s i = AsWhole s i × (noBlank s ≡ noBlank (drop i s))
+-- ---- plain bytes
+abbrev Clean : List ℕ → Type 0
+Clean l = (noBlank l ≡ true) × (validUtf8 l ≡ true)
 
-module _ (s : List ℕ) (i : ℕ) (p : Plain s i) where
-  pub plain-more : i < length s → (32 < getD s i 0) × (getD s i 0 < 128) → Plain s (i + 1)
-  plain-more h b = (ascii-passed s i (p .0) h (b .1), p .1 ∙ sym (blank-more s i h (solid (getD s i 0) (b .0))))
+-- from the place at to the place i: what is left decides
+abbrev pub Plain : List ℕ → ℕ → ℕ → Type 0
+Plain s at i = (i ≤ length s) × (Clean (drop i s) → Clean (drop at s))
 
-  pub plain-done : length s ≤ i → (noBlank s ≡ true) × (validUtf8 s ≡ true)
-  plain-done h = (p .1 ∙ blank-done s i h, sym (p .0 .1) ∙ ap validUtf8 (drop-of-length-le s h) ∙ empty-valid)
+module _ (s : List ℕ) (at i : ℕ) (p : Plain s at i) where
+  pub plain-more : (j : ℕ) → i + 1 ≡ j → i < length s → (32 < getD s i 0) × (getD s i 0 < 128) → Plain s at j
+  plain-more j e h b =
+      let more : Plain s at (i + 1) = (
+        omega arith,
+        λ q. p .1 (
+          sym (blank-more s i h (solid (getD s i 0) (b .0))) ∙ q .0,
+          rw (drop-step s i h) (ascii-first (getD s i 0) (drop (i + 1) s) (b .1) ∙ q .1),
+        ),
+      ) in
+      rw e at more
+
+  pub plain-done : length s ≤ i → Clean (drop at s)
+  plain-done h = p .1 (blank-done s i h, ap validUtf8 (drop-of-length-le s h) ∙ empty-valid)
 
 -- ---- names
 pub name-none : (s : List ℕ) → length s ≡ 0 → isName s ≡ false

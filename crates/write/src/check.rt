@@ -2,7 +2,8 @@
 use text::Found;
 use text::Text;
 ghost use mathlib.Core.Path.{_≡_};
-ghost use Prim.Native.Nat.{_<_};
+ghost use Prim.Native.Nat.{_≤_, _<_};
+ghost use lib.ListN.{length, drop};
 ghost use mathlib.Core.Bool.{true};
 ghost use Rattle.text.specs.Bytes.{noBlank};
 ghost use Rattle.text.specs.Utf8.{validUtf8};
@@ -52,18 +53,33 @@ pub fn is_name(s: &[u8]) -> bool
     text::utf8::valid(s)
 }
 
-// Whether each byte is printable ASCII, as in nearly all names: looked at two a turn.
+// Whether each byte is printable ASCII, as in nearly all names: looked at four a turn.
 fn is_plain(s: &[u8]) -> bool
     ensures { λ r. ⌜ (r ≡ true → (noBlank (now (s .entry)) ≡ true) × (validUtf8 (now (s .entry)) ≡ true)) ⌝ }
 {
     let mut i = 0;
-    while 2 <= s.len() - i {
-        if !plain(s[i]) || !plain(s[i + 1]) {
+    while 4 <= s.len() - i {
+        if !plain(s[i]) || !plain(s[i + 1]) || !plain(s[i + 2]) || !plain(s[i + 3]) {
             return false;
         }
-        i += 2;
+        i += 4;
     }
-    i == s.len() || plain(s[i])
+    is_plain_from(s, i)
+}
+
+// The same of the bytes from `at` on, one a turn.
+fn is_plain_from(s: &[u8], at: usize) -> bool
+    requires { ⌜ at ≤ length (now s) ⌝ }
+    ensures { λ r. ⌜ (r ≡ true → (noBlank (drop at (now (s .entry))) ≡ true) × (validUtf8 (drop at (now (s .entry))) ≡ true)) ⌝ }
+{
+    let mut i = at;
+    while i < s.len() {
+        if !plain(s[i]) {
+            return false;
+        }
+        i += 1;
+    }
+    true
 }
 
 fn plain(b: u8) -> bool

@@ -1,13 +1,14 @@
 -- What 25 asks: no text of a header lies outside the source.
-use Prim.Native.Nat.{ℕ, zero, suc, _+_, _-_, _/_, _≤_, _<_}
-use mathlib.Core.Path.{_≡_, refl, subst, _∙_}
-use mathlib.Core.Bool.{true, false, not, _||_}
+use Prim.Native.Nat.{ℕ, zero, suc, _+_, _-_, _*_, _/_, _≤_, _<_}
+use mathlib.Core.Path.{_≡_, refl, sym, subst, _∙_}
+use mathlib.Core.Bool.{true, false, not, _&&_, _||_, and-true, and-false}
 use mathlib.Core.List.{List}
 use native.Mathlib.Omega.{arith}
 use native.Mathlib.Decide.{decLt}
-use borrow.Author.Tests.{le-ltb, le-leb, leb-true, not-false}
-use lib.ListN.{length}
-use Rattle.header.specs.Rows.{rowAt, rowsFrom, rowsOf}
+use borrow.Author.Tests.{lt-ltb, le-ltb, leb-true, not-false}
+use lib.Dec.{eqb}
+use lib.ListN.{length, getD}
+use Rattle.header.specs.Rows.{textAt, rowAt, rowsFrom, rowsOf}
 use Rattle.header.specs.declared.Header.{Header}
 use Rattle.header.specs.declared.rows.Row.{Row}
 use Rattle.header.specs.declared.rows.Parent.{Parent}
@@ -16,8 +17,8 @@ use Rattle.scope.specs.declared.Var.{Var}
 use Rattle.text.specs.Texts.{isWithin}
 use Rattle.text.specs.declared.Text.{Text}
 use Rattle.text.proofs.Lists.{neither}
-use Rattle.peek.specs.Peek.{kindOf, textIn, varIn}
-use Rattle.peek.proofs.Peeking.{var-kind}
+use Rattle.peek.specs.Peek.{kindOf, varIn}
+use Rattle.peek.proofs.Peeking.{row-cases, var-kind}
 use Rattle.write.specs.Call.{tooLong, outside}
 use Rattle.write.proofs.Checks.{outside-else}
 use Rattle.write_header.specs.Levels.{rest, Inside}
@@ -32,13 +33,16 @@ short s e = leb-true (length s) 4294967295 (not-false _ e)
 pub placed : (s : List ℕ) (t : Text) → tooLong s ≡ false → not (isWithin s t) ≡ false → outside s t ≡ false
 placed s t e h = outside-else s t (short s e) ∙ h
 
--- ---- a row's text, and the empty one of none
-pub row-text : (s : List ℕ) (r : Row) → rowOutside s r ≡ not (isWithin s (textIn r))
-unfolding isWithin
-row-text s (Row.Scope p k t) = refl
-row-text s (Row.Var p v) = refl
-row-text s (Row.Comment p t) = refl
-row-text s Row.None = rw (le-leb 0 (length s) (omega arith))
+-- ---- row i lies outside if the text that its words say does, and they are a row
+pub row-outside : (s table : List ℕ) (i : ℕ) → i < length table / 10
+    → rowOutside s (rowAt table i)
+    ≡ (not (isWithin s (textAt (getD table (10 * i + 5) 0) (getD table (10 * i + 6) 0))) && not (eqb (kindOf (rowAt table i)) 0))
+unfolding rowAt
+row-outside s table i l =
+    let x = not (isWithin s (textAt (getD table (10 * i + 5) 0) (getD table (10 * i + 6) 0))) in
+    let y = sym (and-true x) in
+    rw (lt-ltb i (length table / 10) l)
+    (row-cases (λ r. rowOutside s r ≡ (x && not (eqb (kindOf r) 0))) _ _ _ _ _ _ _ _ _ _ y (λ _ _. y) y (sym (and-false x)))
 
 -- ---- the rows from row i on
 none-row : (table : List ℕ) (i : ℕ) → length table / 10 ≤ i → rowAt table i ≡ Row.None

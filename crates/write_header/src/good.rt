@@ -1,8 +1,10 @@
 // What is judged before a header is written: every text lies in the source (25), and the table is good (23).
 use header::Header;
 use header::KeptText;
+use text::Text;
 ghost use mathlib.Core.Path.{_≡_};
-ghost use Prim.Native.Nat.{_≤_, _<_};
+ghost use Prim.Native.Nat.{_/_, _≤_, _<_};
+ghost use lib.ListN.{length};
 ghost use Rattle.header.specs.Good.{isGoodTable};
 ghost use Rattle.header.specs.Rows.{rowAt, rowsOf, top};
 ghost use Rattle.write_header.specs.Chain.{parentAt, isVarOf, base, Under, Unwound, Stands};
@@ -41,10 +43,20 @@ fn kept_outside(src: &[u8], k: KeptText) -> bool
     }
 }
 
+// A row's text is where its words say; most lie in the source, and of those it need not be asked whether the words are a row.
 fn row_outside(src: &[u8], rows: &[u64], i: usize) -> bool
+    requires { ⌜ i < length (now rows) / 10 ⌝ }
     ensures { λ x. ⌜ x ≡ rowOutside (now (src .entry)) (rowAt (now (rows .entry)) i) ⌝ }
 {
-    !text::within(src, peek::text_at(rows, i))
+    let at = header::WORDS * i;
+    let t = Text {
+        start: rows[at + 5] as usize,
+        len: rows[at + 6] as usize,
+    };
+    if text::within(src, t) {
+        return false;
+    }
+    peek::kind_at(rows, i) != 0
 }
 
 // Rows past the table's end have no text.

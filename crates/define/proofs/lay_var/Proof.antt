@@ -3,7 +3,6 @@ use denote.Ref.{now}
 use Prim.Native.Nat.{_-_, _≤_}
 use native.Mathlib.Omega.{arith}
 use borrow.Author.Needs.{needs}
-use borrow.Author.Tests.{ltb-false}
 use lib.ListN.{length}
 use lib.Seq.{take-all}
 use Rattle.define.specs.Define.{varText}
@@ -16,6 +15,11 @@ returns c =
     let name = now (c .before .before .before .before .before .before .before .before .args .name) in
     rw (take-all (length name - 0) name (omega arith)) at (c .before .before .lay-near .ensures)
 
+returns-2 : tie.Need-returns-2
+returns-2 c =
+    let name = now (c .before .before .before .before .before .before .before .before .before .args .name) in
+    rw (take-all (length name - 0) name (omega arith)) at (c .before .before .lay-near2 .ensures)
+
 -- there is room
 room : (c : tie.After-put-var-arg) →
     let x = c .before .before .before .before .before .args in
@@ -24,17 +28,20 @@ room c =
     let s = c .before .before .before .before .before in
     let x = s .args in
     let l = var-length (x .t) (x .width) (x .id) (now (x .name)) (x .x) (omega arith) (omega arith) (s .good .1 .1 .1 .1 .0) in
-    omega (arith, l, ltb-false)
+    omega (arith, l, c .before .if2 .left, c .before .before .if1 .left)
 
-returns-2 : tie.Need-returns-2
-returns-2 c = placed _ _ (room (c .before .before .before)) (c .before .before .put-var .ensures)
+returns-3 : tie.Need-returns-3
+returns-3 c = placed _ _ (room (c .before .before .before)) (c .before .before .put-var .ensures)
 
 pub lay-var-spec : {M : Type 1} → statement M
 lay-var-spec =
     tie.close
     (tie.spec
-    (λ c. search needs) (λ c. search needs) (λ c. search needs) (λ c. search needs) (λ c κs. search needs) (λ c. search needs)
+    (λ c. search needs) (λ c. search needs) (λ c. search needs) (λ c κs. search needs) (λ c. search needs)
     returns
+    (λ c. search needs)
+    (λ c. search needs) (λ c. search needs) (λ c. search needs) (λ c κs. search needs) (λ c. search needs)
+    returns-2
     (λ c κs. room c)
     (λ c. search needs)
-    returns-2)
+    returns-3)

@@ -15,7 +15,7 @@ kind-at-requires : tie.Need-kind-at-requires
 kind-at-requires c κs = search needs
 
 returns : tie.Need-returns
-returns c = sym (no-row _ _ (sym (c .before .kind-at .ensures) ∙ c .if1 .taken) .0)
+returns c = sym (no-row _ _ (sym (c .before .kind-at .ensures) ∙ c .if1 .taken))
 
 mul-result : tie.Need-mul-result
 mul-result c = let h = inside c in search needs
