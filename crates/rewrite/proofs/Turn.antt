@@ -7,7 +7,7 @@ use native.Mathlib.Nat.{sub-zero}
 use native.Mathlib.Omega.{arith}
 use borrow.Author.Tests.{le-leb, leb-true}
 use lib.Dec.{leb}
-use lib.ListN.{length, take, drop, length-append, length-drop, take-append-drop, drop-of-length-le}
+use lib.ListN.{length, take, drop, getD, length-append, length-drop, take-append-drop, drop-of-length-le}
 use lib.Seq.{take-at, drop-at, drop-drop}
 use Rattle.text.specs.Texts.{isWithin, putAnswer, putBytes}
 use Rattle.text.specs.declared.Text.{Text}
@@ -15,6 +15,7 @@ use Rattle.text.proofs.Lists.{by-test, take-rest}
 use Rattle.command.specs.Meaning.{Meaning, meaning}
 use Rattle.command.specs.declared.Command.{Command}
 use Rattle.command.specs.declared.Refusal.{Refusal}
+use Rattle.token.specs.Flat.{wordRead}
 use Rattle.token.specs.Read.{Valid}
 use Rattle.token.specs.declared.Cursor.{Cursor}
 use Rattle.token.proofs.Tokens.{Within}
@@ -23,7 +24,7 @@ use Rattle.parser.specs.Next.{isGood, nextFrom}
 use Rattle.parser.specs.declared.Next.{Next}
 use Rattle.parser.proofs.Ahead.{command-past}
 use Rattle.parser.proofs.All.{less-left, commands-step}
-use Rattle.parser.proofs.Moved.{Inside}
+use Rattle.parser.proofs.Moved.{Inside as Lies}
 use Rattle.parser.proofs.Stated.{command-inside}
 use Rattle.write.specs.Call.{Does, written, outside, misplaced, call}
 use Rattle.write.specs.Layout.{layout, writable, stateAfter}
@@ -31,7 +32,7 @@ use Rattle.write.specs.declared.Writer.{Writer}
 use Rattle.write.specs.declared.Written.{Written}
 use Rattle.write.proofs.Checks.{not-long, outside-else}
 use Rattle.write.proofs.Outcomes.{not-writable, laid-out}
-use Rattle.rewrite.specs.Rewrite.{Outcome, ends, after, rewritten, rewriteOf, answerOf, filled, wroteOf, stepOf, leftBy}
+use Rattle.rewrite.specs.Rewrite.{Outcome, ends, after, rewritten, rewriteOf, answerOf, filled, wroteOf, stepOf, leftBy, behind, Inside}
 use Rattle.rewrite.specs.declared.Ended.{Ended}
 use Rattle.rewrite.specs.declared.Step.{Step}
 
@@ -41,7 +42,7 @@ module _ (s : List ℕ) (h : length s ≤ 4294967295) where
   unfolding isWithin
   within t w = rw (outside-else s t h, le-leb (t .start + t .len) (length s) (w .inside))
 
-  placed : (k : Command) → Inside s k → misplaced s k ≡ false
+  placed : (k : Command) → Lies s k → misplaced s k ≡ false
   placed (Command.Comment t) i = within t i
   placed (Command.Date t) i = within t i
   placed (Command.Version t) i = within t i
@@ -119,8 +120,9 @@ unfolding call
 may-not w s o k p q = not-writable _ _ _ _ _ p q
 
 module _ (s o : List ℕ) (c : Cursor) (w : Writer) where
-  -- what an answer, and what it left of the output, tell of all that is ahead
+  -- what an answer, and what it left of the output, tell of all that is ahead; of a quick one, its `behind` tells
   abbrev Told : Step → List ℕ → Type 0
+  Told (Step.Quick e n) left = Unit {0}
   Told (Step.Wrote d n v) left = Writes s o c w left n v d × (length s - d .place < length s - c .place)
   Told (Step.Ends d e) left = (left ≡ o) × (ahead s (length o) w c ≡ ends w d e)
 
@@ -158,6 +160,10 @@ module _ (s o : List ℕ) (c : Cursor) (w : Writer) where
 abbrev pub Steps : List ℕ → List ℕ → Cursor → Writer → Step → List ℕ → Type 0
 Steps s o c w r left = (r ≡ stepOf s c w o (nextFrom s c)) × (left ≡ leftBy s w o (nextFrom s c))
 
+-- the answer r of the quick way
+abbrev pub Answers : List ℕ → List ℕ → Cursor → Writer → Step → List ℕ → Type 0
+Answers s o c w r left = (behind s c w r ≡ stepOf s c w o (nextFrom s c)) × Inside s r × (left ≡ leftBy s w o (nextFrom s c))
+
 pub command-steps : (s o : List ℕ) (c : Cursor) (w : Writer) (k : Command) (d : Cursor) → nextFrom s c ≡ Next.Command k d → {r : Step} {left : List ℕ} (x : Written)
     → r ≡ wroteOf c d x → Does x left (call w s k o) → Steps s o c w r left
 command-steps s o c w k d e x q y = rw e (q ∙ ap (wroteOf c d) (y .answers), y .leaves)
@@ -192,18 +198,24 @@ module _ (s o : List ℕ) (c : Cursor) (w : Writer) (out : List ℕ) (n : ℕ) (
 
   -- the answer r of the next step, and what it left of the rest of the output
   module _ (r : Step) (left out′ : List ℕ) (back : out′ ≡ take n out ++ (left ++ drop (length out - n) (drop n out)))
-      (does : Steps s (take (length out - n) (drop n out)) d v r left) where
+      (does : Answers s (take (length out - n) (drop n out)) d v r left) where
     rest : take (length out - n) (drop n out) ≡ drop n o
     rest = take-rest out n ∙ rest-is
 
     joined : out′ ≡ take n out ++ left
     joined = back ∙ rw (drop-of-length-le (drop n out) {i = length out - n} (omega (arith, length-drop n out)), append-nil left)
 
-    told-next : Told s (drop n o) d v r left
-    told-next = let f = rw rest at does in rw (f .0, f .1) (told s (drop n o) d v (nextFrom s d) refl)
+    told-next : Told s (drop n o) d v (behind s d v r) left
+    told-next = let f = rw rest at does in rw (f .0, f .2) (told s (drop n o) d v (nextFrom s d) refl)
 
-    pub goes-on : {m : ℕ} {u : Writer} {e : Cursor} → r ≡ Step.Wrote e m u → Writes s o c w out′ (n + m) u e × (length s - e .place < length s - d .place)
+    abbrev GoesOn : Cursor → ℕ → Writer → Type 0
+    GoesOn e m u = Writes s o c w out′ (n + m) u e × (length s - e .place < length s - d .place)
+
+    pub goes-on : {m : ℕ} {u : Writer} {e : Cursor} → r ≡ Step.Wrote e m u → GoesOn e m u
     goes-on q = let y = rw q at told-next in (then-writes joined (y .0), y .1)
+
+    pub goes-quick : {e m : ℕ} → r ≡ Step.Quick e m → GoesOn (wordRead d e (getD s e 0)) m v
+    goes-quick q = let y = rw q at told-next in (then-writes joined (y .0), y .1)
 
     ended : {e : Ended} {f : Cursor} → r ≡ Step.Ends f e → rewriteOf s c w o ≡ after (x .bytes) (ends v f e)
     unfolding rewriteOf

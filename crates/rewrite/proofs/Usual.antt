@@ -1,6 +1,6 @@
 -- The usual commands, told by a quick look: they may be written, change no state, and are laid out as `lay` puts them. Assumes nothing.
 use Prim.Native.Nat.{ℕ, _+_, _-_, _^_, _≤_, _<_}
-use mathlib.Core.Path.{_≡_, refl}
+use mathlib.Core.Path.{_≡_, refl, ap, _∙_}
 use mathlib.Core.Bool.{true}
 use mathlib.Core.List.{List}
 use native.Mathlib.Omega.{arith}
@@ -12,6 +12,8 @@ use Rattle.value.specs.Values.{lower}
 use Rattle.value.proofs.Values.{lower-byte}
 use Rattle.command.specs.Meaning.{meaning}
 use Rattle.command.specs.declared.Command.{Command}
+use Rattle.parser.specs.Next.{nextFrom}
+use Rattle.parser.specs.declared.Next.{Next}
 use Rattle.token.specs.Flat.{wordRead}
 use Rattle.token.specs.Read.{Valid}
 use Rattle.token.specs.declared.Cursor.{Cursor}
@@ -20,12 +22,13 @@ use Rattle.lay.specs.Put.{timeText, scalarText, vectorText}
 use Rattle.write.specs.Call.{written, call}
 use Rattle.write.specs.Layout.{isId, layout, writable, stateAfter}
 use Rattle.write.specs.declared.Writer.{Writer}
+use Rattle.write.specs.declared.Written.{Written}
 use Rattle.write.proofs.Checks.{id-some, vector-some}
 use Rattle.write.proofs.Outcomes.{laid-out}
 use Rattle.write.proofs.Spelling.{value-name}
-use Rattle.rewrite.specs.Rewrite.{wroteOf}
+use Rattle.rewrite.specs.Rewrite.{wroteOf, stepOf, behind, Inside, laidOf}
 use Rattle.rewrite.specs.declared.Step.{Step}
-use Rattle.rewrite.proofs.Turn.{command-placed, Steps, command-steps}
+use Rattle.rewrite.proofs.Turn.{command-placed, Steps, Answers, command-steps}
 
 known : (i : ℕ) → i < 2 ^ 64 - 1 → isId (record { 0 = i }) ≡ true
 known i h = id-some (record { 0 = i }) (λ q. omega (arith, q))
@@ -41,32 +44,60 @@ some s at stop e i x z =
     let h : stop - (at + 1) ≤ length (drop (at + 1) s) = omega (arith, length-drop (at + 1) s, x .before, x .change .inside) in
     omega (arith, length-take-le (stop - (at + 1)) (drop (at + 1) s) h, x .some)
 
--- the bytes l were put, if they had room
+-- ---- the quick way's answers
+-- one that the plain way answered
+module _ (s o : List ℕ) (c : Cursor) (w : Writer) where
+  abbrev Same : Step → Type 0
+  Same r = (behind s c w r ≡ r) × Inside s r
+
+  wrote-same : (d : Cursor) (x : Written) → Same (wroteOf c d x)
+  wrote-same d (Written.Bytes n v) = (refl, tt)
+  wrote-same d (Written.Refused e) = (refl, tt)
+
+  step-same : (x : Next) → Same (stepOf s c w o x)
+  step-same (Next.Command k d) = wrote-same d (call w s k o .answer)
+  step-same (Next.Refused e line d) = (refl, tt)
+  step-same (Next.Done d) = (refl, tt)
+
+  pub plain-steps : (r : Step) (left : List ℕ) → Steps s o c w r left → Answers s o c w r left
+  plain-steps r left h = let q = step-same (nextFrom s c) in rw (h .0) (q .0, q .1, h .1)
+
+-- one that laid out the bytes l, if they had room
 abbrev Laid : List ℕ → List ℕ → Placed → List ℕ → Type 0
 Laid l o p left = (p ≡ putAnswer l o) × (left ≡ putBytes l o)
 
-module _ (s o : List ℕ) (c : Cursor) (w : Writer) (v : Valid s c) (e : ℕ) (r : Step) (p : Placed) (left : List ℕ)
-    (q : r ≡ wroteOf c (wordRead c e (getD s e 0)) (written w p)) where
+module _ (s : List ℕ) (c : Cursor) (w : Writer) (e : ℕ) where
+  laid-behind : (p : Placed) → behind s c w (laidOf c e (getD s e 0) p) ≡ wroteOf c (wordRead c e (getD s e 0)) (written w p)
+  laid-behind (Placed.Count n) = refl
+  laid-behind Placed.NoRoom = refl
+
+  laid-inside : e < length s → (p : Placed) → Inside s (laidOf c e (getD s e 0) p)
+  laid-inside h (Placed.Count n) = h
+  laid-inside h Placed.NoRoom = tt
+
+module _ (s o : List ℕ) (c : Cursor) (w : Writer) (v : Valid s c) (e : ℕ) (r : Step) (p : Placed) (left : List ℕ) (q : r ≡ laidOf c e (getD s e 0) p) where
   -- the command k was read
   steps : (k : Command) → Reads s (c .place) e k → {l : List ℕ} → Laid l o p left → writable w (meaning s k) ≡ true → w ≡ stateAfter w (meaning s k)
-      → l ≡ layout (meaning s k) → Steps s o c w r left
+      → l ≡ layout (meaning s k) → Answers s o c w r left
   unfolding call
   steps k x put may same is =
       let n = x .reads c v refl in
-      command-steps s o c w k (wordRead c e (getD s e 0)) n (written w p) q
-      (laid-out _ _ _ _ _ (command-placed s c (wordRead c e (getD s e 0)) k n) may refl put same is)
+      let y : Steps s o c w (behind s c w r) left =
+      command-steps s o c w k (wordRead c e (getD s e 0)) n (written w p) (ap (behind s c w) q ∙ laid-behind s c w e p)
+      (laid-out _ _ _ _ _ (command-placed s c (wordRead c e (getD s e 0)) k n) may refl put same is) in
+      (y .0, rw q (laid-inside s c w e (x .inside) p), y .1)
 
-  pub time-steps : (t : ℕ) → Reads s (c .place) e (Command.Timestamp (record { 0 = t })) → Laid (timeText t) o p left → Steps s o c w r left
+  pub time-steps : (t : ℕ) → Reads s (c .place) e (Command.Timestamp (record { 0 = t })) → Laid (timeText t) o p left → Answers s o c w r left
   unfolding stateAfter layout
   time-steps t x put = steps _ x put refl refl refl
 
-  pub scalar-steps : (i : ℕ) → ReadsScalar s (c .place) e i → Laid (scalarText (lower (getD s (c .place) 0)) i) o p left → Steps s o c w r left
+  pub scalar-steps : (i : ℕ) → ReadsScalar s (c .place) e i → Laid (scalarText (lower (getD s (c .place) 0)) i) o p left → Answers s o c w r left
   unfolding stateAfter layout
   scalar-steps i x put =
       let name = lower-byte (getD s (c .place) 0) (x .value) (x .means) in
       steps _ (x .change) put (rw (known i (x .id))) refl (rw (name, ← value-name (x .value)))
 
-  pub vector-steps : (i stop : ℕ) → ReadsVector s (c .place) stop e i → Laid (vectorText (part s (valuesAt (c .place) stop)) i) o p left → Steps s o c w r left
+  pub vector-steps : (i stop : ℕ) → ReadsVector s (c .place) stop e i → Laid (vectorText (part s (valuesAt (c .place) stop)) i) o p left → Answers s o c w r left
   unfolding stateAfter layout
   vector-steps i stop x put =
       let t = valuesAt (c .place) stop in

@@ -10,12 +10,11 @@ use write::Writer;
 use write::Written;
 ghost use mathlib.Core.Path.{_≡_};
 ghost use lib.ListN.{length};
-ghost use Prim.Native.Nat.{_≤_};
+ghost use Prim.Native.Nat.{_≤_, _<_};
 ghost use Rattle.brief.specs.Brief.{Tells};
 ghost use Rattle.parser.specs.Next.{nextFrom};
 ghost use Rattle.token.specs.Read.{Valid};
-ghost use Rattle.write.specs.Call.{written};
-ghost use Rattle.rewrite.specs.Rewrite.{rewriteOf, answerOf, filled, wroteOf, stepOf, leftBy};
+ghost use Rattle.rewrite.specs.Rewrite.{rewriteOf, answerOf, filled, wroteOf, stepOf, leftBy, behind, Inside, laidOf};
 
 // How it ended: at the end of the input, or by a refusal of reading or writing and the reader's line then.
 pub enum Ended {
@@ -33,6 +32,8 @@ pub struct Rewritten {
 
 // One command written, with its bytes, the state and the cursor then; or how it ends.
 enum Step {
+    // The place of the blank that ends it, and the bytes written; the state is as it was.
+    Quick(usize, usize),
     Wrote(Cursor, usize, Writer),
     Ends(Cursor, Ended),
 }
@@ -50,6 +51,10 @@ pub fn rewrite(input: &[u8], c: Cursor, w: Writer, out: &mut [u8]) -> Rewritten
     let mut used: usize = 0;
     loop {
         match step_quick(input, cur, state, &mut out[used..]) {
+            Step::Quick(end, n) => {
+                used += n;
+                cur = token::word_read(cur, end, input[end]);
+            }
             Step::Wrote(d, n, v) => {
                 used += n;
                 state = v;
@@ -97,22 +102,22 @@ fn glance(input: &[u8], at: usize) -> Brief
 // The usual commands are told by a quick look; they may always be written and change no state.
 fn step_quick(input: &[u8], c: Cursor, w: Writer, out: &mut [u8]) -> Step
     requires { ⌜ Valid (now input) c ⌝ }
-    ensures { λ r. ⌜ (r ≡ stepOf (now (input .entry)) c w (now (out .entry)) (nextFrom (now (input .entry)) c)) × (now (out .exit) ≡ leftBy (now (input .entry)) w (now (out .entry)) (nextFrom (now (input .entry)) c)) ⌝ }
+    ensures { λ r. ⌜ (behind (now (input .entry)) c w r ≡ stepOf (now (input .entry)) c w (now (out .entry)) (nextFrom (now (input .entry)) c)) × Inside (now (input .entry)) r × (now (out .exit) ≡ leftBy (now (input .entry)) w (now (out .entry)) (nextFrom (now (input .entry)) c)) ⌝ }
 {
     let at = c.place;
     match glance(input, at) {
         Brief::Time(t, end) => {
             let p = lay::lay_time(t, out);
-            laid(p, c, w, token::word_read(c, end, input[end]))
+            laid(p, c, end, input[end])
         }
         Brief::Scalar(i, end) => {
             let v = value::vector::lowered(input[at]);
             let p = lay::lay_scalar(v, IdCode(i), out);
-            laid(p, c, w, token::word_read(c, end, input[end]))
+            laid(p, c, end, input[end])
         }
         Brief::Vector(i, stop, end) => {
             let p = lay::lay_vector(&input[at + 1..stop], IdCode(i), out);
-            laid(p, c, w, token::word_read(c, end, input[end]))
+            laid(p, c, end, input[end])
         }
         Brief::Other => step_more(&input[0..], again(c), state_again(w), out),
     }
@@ -143,13 +148,17 @@ fn state_again(w: Writer) -> Writer
     }
 }
 
-// The answer where only the room was in question, for a command between the cursors c and d.
-fn laid(p: Placed, c: Cursor, w: Writer, d: Cursor) -> Step
-    ensures { λ r. ⌜ r ≡ wroteOf c d (written w p) ⌝ }
+// The answer where only the room was in question, for a command from the cursor c on that the byte b at `end` ends.
+fn laid(p: Placed, c: Cursor, end: usize, b: u8) -> Step
+    requires { ⌜ (end < 4294967295) × (c .line ≤ 4294967296) ⌝ }
+    ensures { λ r. ⌜ r ≡ laidOf c end b p ⌝ }
 {
     match p {
-        Placed::Count(n) => Step::Wrote(d, n, w),
-        Placed::NoRoom => Step::Ends(c, Ended::Refused(Refusal::NoRoom, d.line)),
+        Placed::Count(n) => Step::Quick(end, n),
+        Placed::NoRoom => {
+            let d = token::word_read(c, end, b);
+            Step::Ends(c, Ended::Refused(Refusal::NoRoom, d.line))
+        }
     }
 }
 

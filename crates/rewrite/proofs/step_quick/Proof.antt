@@ -6,7 +6,7 @@ use Rattle.brief.specs.Brief.{Reads, ReadsScalar, ReadsVector}
 use Rattle.command.specs.declared.Command.{Command}
 use Rattle.text.specs.Texts.{part}
 use Rattle.text.proofs.Lists.{take-rest}
-use Rattle.rewrite.proofs.Usual.{may-move, time-steps, scalar-steps, vector-steps}
+use Rattle.rewrite.proofs.Usual.{may-move, plain-steps, time-steps, scalar-steps, vector-steps}
 use Rattle.rewrite.proofs.step_quick.Statement.{statement}
 use Rattle.rewrite.proofs.step_quick.Tie as tie
 
@@ -29,14 +29,11 @@ enum-known-t c = search needs
 lay-time-requires : tie.Need-lay-time-requires
 lay-time-requires c κs = search needs
 
-shared-slice-read-word-read : tie.Need-shared-slice-read-word-read
-shared-slice-read-word-read c = omega (arith, time (c .before .before .before .before .before .before) .inside)
-
-word-read-requires : tie.Need-word-read-requires
-word-read-requires c κs = may-move _ _ (c .before .before .before .before .before .before .before .before .before .before .before .pre) _ (time (c .before .before .before .before .before .before) .inside)
+shared-slice-read-laid : tie.Need-shared-slice-read-laid
+shared-slice-read-laid c = time (c .before .before .before .before .before .before) .inside
 
 laid-requires : tie.Need-laid-requires
-laid-requires c κs = search needs
+laid-requires c κs = may-move _ _ (c .before .before .before .before .before .before .before .before .before .before .before .pre) _ (time (c .before .before .before .before .before .before) .inside)
 
 enum-known-i : tie.Need-enum-known-i
 enum-known-i c = search needs
@@ -50,14 +47,11 @@ lowered-requires c κs = search needs
 lay-scalar-requires : tie.Need-lay-scalar-requires
 lay-scalar-requires c κs = search needs
 
-shared-slice-read-word-read-2 : tie.Need-shared-slice-read-word-read-2
-shared-slice-read-word-read-2 c = omega (arith, scalar (c .before .before .before .before .before .before .before .before) .change .inside)
-
-word-read-requires-2 : tie.Need-word-read-requires-2
-word-read-requires-2 c κs = may-move _ _ (c .before .before .before .before .before .before .before .before .before .before .before .before .before .pre) _ (scalar (c .before .before .before .before .before .before .before .before) .change .inside)
+shared-slice-read-laid-2 : tie.Need-shared-slice-read-laid-2
+shared-slice-read-laid-2 c = scalar (c .before .before .before .before .before .before .before .before) .change .inside
 
 laid-requires-2 : tie.Need-laid-requires-2
-laid-requires-2 c κs = search needs
+laid-requires-2 c κs = may-move _ _ (c .before .before .before .before .before .before .before .before .before .before .before .before .before .pre) _ (scalar (c .before .before .before .before .before .before .before .before) .change .inside)
 
 enum-known-i-2 : tie.Need-enum-known-i-2
 enum-known-i-2 c = search needs
@@ -77,14 +71,11 @@ part-lay-vector-end c = let x = vector (c .before) in omega (arith, x .some, x .
 lay-vector-requires : tie.Need-lay-vector-requires
 lay-vector-requires c κs = search needs
 
-shared-slice-read-word-read-3 : tie.Need-shared-slice-read-word-read-3
-shared-slice-read-word-read-3 c = omega (arith, vector (c .before .before .before .before .before .before .before) .change .inside)
-
-word-read-requires-3 : tie.Need-word-read-requires-3
-word-read-requires-3 c κs = may-move _ _ (c .before .before .before .before .before .before .before .before .before .before .before .before .pre) _ (vector (c .before .before .before .before .before .before .before) .change .inside)
+shared-slice-read-laid-3 : tie.Need-shared-slice-read-laid-3
+shared-slice-read-laid-3 c = vector (c .before .before .before .before .before .before .before) .change .inside
 
 laid-requires-3 : tie.Need-laid-requires-3
-laid-requires-3 c κs = search needs
+laid-requires-3 c κs = may-move _ _ (c .before .before .before .before .before .before .before .before .before .before .before .before .pre) _ (vector (c .before .before .before .before .before .before .before) .change .inside)
 
 enum-told : tie.Need-enum-told
 enum-told c = search needs
@@ -111,28 +102,30 @@ same-length : tie.Need-same-length
 same-length c = search needs
 
 returns : tie.Need-returns
-returns c = time-steps _ _ _ _ (c .before .before .before .before .before .before .before .before .before .before .before .before .before .pre) _ _ _ _ (rw (← c .before .word-read .ensures) (c .laid .ensures)) _ (time (c .before .before .before .before .before .before .before .before)) (c .before .before .before .before .before .lay-time .ensures)
+returns c = time-steps _ _ _ _ (c .before .before .before .before .before .before .before .before .before .before .before .before .pre) _ _ _ _ (c .laid .ensures) _ (time (c .before .before .before .before .before .before .before)) (c .before .before .before .before .lay-time .ensures)
 
 same-length-2 : tie.Need-same-length-2
 same-length-2 c = search needs
 
 returns-2 : tie.Need-returns-2
-returns-2 c = scalar-steps _ _ _ _ (c .before .before .before .before .before .before .before .before .before .before .before .before .before .before .before .pre) _ _ _ _ (rw (← c .before .word-read2 .ensures) (c .laid2 .ensures)) _ (scalar (c .before .before .before .before .before .before .before .before .before .before)) (rw (c .before .before .before .before .before .before .before .lowered .ensures) at (c .before .before .before .before .before .lay-scalar .ensures))
+returns-2 c =
+    scalar-steps _ _ _ _ (c .before .before .before .before .before .before .before .before .before .before .before .before .before .before .pre) _ _ _ _ (c .laid2 .ensures) _ (scalar (c .before .before .before .before .before .before .before .before .before))
+    (rw (c .before .before .before .before .before .before .lowered .ensures) at (c .before .before .before .before .lay-scalar .ensures))
 
 same-length-3 : tie.Need-same-length-3
 same-length-3 c = search needs
 
 returns-3 : tie.Need-returns-3
 unfolding part
-returns-3 c = vector-steps _ _ _ _ (c .before .before .before .before .before .before .before .before .before .before .before .before .before .before .pre) _ _ _ _ (rw (← c .before .word-read3 .ensures) (c .laid3 .ensures)) _ _ (vector (c .before .before .before .before .before .before .before .before .before)) (c .before .before .before .before .before .lay-vector .ensures)
+returns-3 c = vector-steps _ _ _ _ (c .before .before .before .before .before .before .before .before .before .before .before .before .before .pre) _ _ _ _ (c .laid3 .ensures) _ _ (vector (c .before .before .before .before .before .before .before .before)) (c .before .before .before .before .lay-vector .ensures)
 
 same-length-4 : tie.Need-same-length-4
 same-length-4 c = search needs
 
 returns-4 : tie.Need-returns-4
 returns-4 c =
-    rw (← c .before .before .before .before .before .again .ensures, ← c .before .before .before .before .state-again .ensures)
-    (rw (take-rest (now (c .before .before .before .before .before .before .before .before .before .before .before .before .args .input)) 0) at (c .before .before .step-more .ensures))
+    plain-steps _ _ _ _ _ _
+    (rw (take-rest (now (c .before .before .before .before .before .before .before .before .before .before .before .before .args .input)) 0, c .before .before .before .before .before .again .ensures, c .before .before .before .before .state-again .ensures) at (c .before .before .step-more .ensures))
 
 pub step-quick-spec : {M : Type 1} → statement M
 step-quick-spec =
@@ -141,15 +134,13 @@ step-quick-spec =
     glance-requires
     enum-known-t
     lay-time-requires
-    shared-slice-read-word-read
-    word-read-requires
+    shared-slice-read-laid
     laid-requires
     enum-known-i
     shared-slice-read-lowered
     lowered-requires
     lay-scalar-requires
-    shared-slice-read-word-read-2
-    word-read-requires-2
+    shared-slice-read-laid-2
     laid-requires-2
     enum-known-i-2
     add-lay-vector
@@ -157,8 +148,7 @@ step-quick-spec =
     part-lay-vector-start
     part-lay-vector-end
     lay-vector-requires
-    shared-slice-read-word-read-3
-    word-read-requires-3
+    shared-slice-read-laid-3
     laid-requires-3
     enum-told
     sub-step-more
