@@ -1,23 +1,28 @@
-// `ours MODE FILE TURNS [ID]`: the library over a file that is in memory, with the words and answers of crate_bench (bench/crate); beside
-// its modes `next`, which reads as `read` does but by one call a command. `ours reformat` rewrites standard input to standard output.
+// `ours MODE FILE TURNS [ID [SIZE]]`: the library over a file that is in memory, with the words and answers of crate_bench (bench/crate);
+// beside its modes `next`, which reads as `read` does but by one call a command, and `changes`, which lists as `list` does but reads no
+// header first. With a size the file is taken as many dumps of that many bytes, one after the other, cut behind a newline. `ours
+// reformat` rewrites standard input to standard output.
 #include <fcntl.h>
 #include <stdint.h>
 #include <stdio.h>
 #include <stdlib.h>
 #include <string.h>
+#include <sys/mman.h>
 #include <sys/stat.h>
 #include <time.h>
 #include <unistd.h>
 
 #include "vcd.h"
 
-// Words of a header's table; records read a call; bytes written a call by `reformat`.
-enum { TABLE = VCD_MOST_ROWS * VCD_ROW, RECORDS = 256, ROOM = 65536 };
+// Records read a call; bytes written a call by `reformat`; bytes that a row's command has at least (`$comment $end`).
+enum { RECORDS = 256, ROOM = 65536, ROW_BYTES = 13 };
 
 // A dump, the code to list, and what is lent to the calls. Nothing lent is cleared between turns.
 struct dump {
   uint8_t *bytes;
   size_t len;
+  uint64_t *table;
+  size_t table_len;
   uint64_t code;
   uint64_t *changes;
   size_t changes_len;
@@ -29,7 +34,7 @@ struct found {
   uint64_t count, sum;
 };
 
-static uint64_t table[TABLE], head[VCD_HEAD];
+static uint64_t head[VCD_HEAD];
 
 static void die(const char *what) {
   fprintf(stderr, "ours: %s\n", what);
@@ -75,14 +80,12 @@ static struct found next_all(struct dump *d) {
 }
 
 static void read_header(struct dump *d, uint64_t *cursor) {
-  expect("vcd_header", VCD_OK, vcd_header(d->bytes, d->len, cursor, VCD_CURSOR, table, TABLE, head, VCD_HEAD));
+  expect("vcd_header", VCD_OK, vcd_header(d->bytes, d->len, cursor, VCD_CURSOR, d->table, d->table_len, head, VCD_HEAD));
 }
 
-// The header, then every change of one code; the sum is of times, lines and lengths of values.
-static struct found list(struct dump *d) {
-  uint64_t cursor[VCD_CURSOR] = VCD_CURSOR_START;
+// Every change of one code from the cursor on; the sum is of times, lines and lengths of values.
+static struct found list_from(struct dump *d, uint64_t *cursor) {
   struct found f = {0, 0};
-  read_header(d, cursor);
   expect("vcd_list", VCD_OK, vcd_list(d->bytes, d->len, cursor, VCD_CURSOR, d->code, d->changes, d->changes_len, &f.count));
   for (uint64_t i = 0; i < f.count; i++) {
     const uint64_t *change = d->changes + VCD_CHANGE * i;
@@ -91,12 +94,24 @@ static struct found list(struct dump *d) {
   return f;
 }
 
+static struct found changes(struct dump *d) {
+  uint64_t cursor[VCD_CURSOR] = VCD_CURSOR_START;
+  return list_from(d, cursor);
+}
+
+// The header, then every change of one code.
+static struct found list(struct dump *d) {
+  uint64_t cursor[VCD_CURSOR] = VCD_CURSOR_START;
+  read_header(d, cursor);
+  return list_from(d, cursor);
+}
+
 // Reads the header and writes it into the memory lent; answers how many bytes.
 static uint64_t rewrite_header(struct dump *d, uint64_t *cursor, uint64_t *writer) {
   uint64_t n;
   read_header(d, cursor);
   expect("vcd_write_header", VCD_OK,
-         vcd_write_header(writer, VCD_WRITER, d->bytes, d->len, head, VCD_HEAD, table, TABLE, d->out, d->room, &n));
+         vcd_write_header(writer, VCD_WRITER, d->bytes, d->len, head, VCD_HEAD, d->table, d->table_len, d->out, d->room, &n));
   return n;
 }
 
@@ -137,24 +152,63 @@ static void reformat(struct dump *d) {
   expect("vcd_rewrite", VCD_OK, status);
 }
 
+// As many words as rows the dump could have.
+static size_t table_words(size_t len) {
+  size_t rows = len / ROW_BYTES + 1;
+  return VCD_ROW * (rows < VCD_MOST_ROWS ? rows : VCD_MOST_ROWS);
+}
+
+// All bytes of a file that is read.
+static void read_whole(int file, size_t size, struct dump *d) {
+  ssize_t n;
+  d->bytes = memory(size);
+  while ((n = read(file, d->bytes + d->len, size - d->len)) > 0) {
+    d->len += n;
+    if (d->len == size && !(d->bytes = realloc(d->bytes, size *= 2))) die("no memory");
+  }
+  if (n < 0) die("cannot read");
+}
+
 // The whole of a file. Twice its size is lent for writing, and for listing as many rows as it could have changes, of three bytes at
 // least: the system gives only the pages that are used.
 static struct dump whole(int file) {
   struct dump d = {0};
-  size_t size = ROOM;
   struct stat s;
-  ssize_t n;
-  if (fstat(file, &s) == 0 && s.st_size >= ROOM) size = s.st_size + 1;
-  d.bytes = memory(size);
-  while ((n = read(file, d.bytes + d.len, size - d.len)) > 0) {
-    d.len += n;
-    if (d.len == size && !(d.bytes = realloc(d.bytes, size *= 2))) die("no memory");
-  }
-  if (n < 0) die("cannot read");
+  read_whole(file, fstat(file, &s) == 0 && s.st_size >= ROOM ? s.st_size + 1 : ROOM, &d);
+  d.table_len = table_words(d.len);
+  d.table = memory(sizeof(uint64_t) * d.table_len);
   d.room = 2 * d.len + ROOM;
   d.out = memory(d.room);
   d.changes_len = VCD_CHANGE * (d.len / 3 + 1);
   d.changes = memory(sizeof(uint64_t) * d.changes_len);
+  return d;
+}
+
+static void *mapped(size_t size, int access, int flags, int file) {
+  void *p = mmap(NULL, size, access, MAP_PRIVATE | flags, file, 0);
+  if (p == MAP_FAILED) die("no memory");
+  return p;
+}
+
+// What `reformat` works on. A file is not copied; its header is no longer when written anew than twice its length and a turn's room.
+// Pages that will be used are asked for at once, where the system can: one given when it is first touched takes longer.
+static struct dump program(int file) {
+  const int both = PROT_READ | PROT_WRITE;
+  struct dump d = {0};
+  struct stat s;
+  if (fstat(file, &s) == 0 && S_ISREG(s.st_mode) && s.st_size > 0) {
+    d.len = s.st_size;
+    d.bytes = mapped(d.len, PROT_READ, MAP_POPULATE, file);
+  } else {
+    read_whole(file, ROOM, &d);
+  }
+  d.table_len = table_words(d.len);
+  d.table = mapped(sizeof(uint64_t) * d.table_len, both, MAP_ANONYMOUS | MAP_POPULATE, -1);
+  d.room = 2 * d.len + ROOM;
+  d.out = mapped(d.room, both, MAP_ANONYMOUS, -1);
+#ifdef MADV_POPULATE_WRITE
+  madvise(d.out, d.len < 4 * ROOM ? d.len : ROOM, MADV_POPULATE_WRITE);
+#endif
   return d;
 }
 
@@ -170,7 +224,7 @@ static work *mode_of(const char *name) {
   static const struct {
     const char *name;
     work *does;
-  } modes[] = {{"load", load},         {"read", read_all},           {"next", next_all},   {"list", list},
+  } modes[] = {{"load", load},         {"read", read_all},           {"next", next_all},   {"list", list},     {"changes", changes},
                {"commands", commands}, {"command-bytes", commands}, {"rewrite", rewrite}, {"bytes", rewrite}};
   for (size_t i = 0; i < sizeof modes / sizeof *modes; i++)
     if (strcmp(name, modes[i].name) == 0) return modes[i].does;
@@ -178,12 +232,27 @@ static work *mode_of(const char *name) {
   return NULL;
 }
 
-static void measure(work *does, struct dump *d, int turns, int written) {
+// The work over dumps of `size` bytes, which are cut behind a newline; the last may be shorter.
+static struct found in_parts(work *does, struct dump *d, size_t size) {
+  struct dump part = *d;
+  struct found sum = {0, 0};
+  for (size_t at = 0; at < d->len; at += part.len) {
+    part.bytes = d->bytes + at;
+    part.len = d->len - at < size ? d->len - at : size;
+    while (part.len < d->len - at && part.bytes[part.len - 1] != '\n') part.len++;
+    struct found f = does(&part);
+    sum.count += f.count;
+    sum.sum += f.sum;
+  }
+  return sum;
+}
+
+static void measure(work *does, struct dump *d, int turns, size_t size, int written) {
   struct found f = {0, 0};
   uint64_t best = UINT64_MAX;
   for (int i = 0; i < turns; i++) {
     uint64_t start = nanoseconds();
-    f = does(d);
+    f = in_parts(does, d, size);
     uint64_t took = nanoseconds() - start;
     if (took < best) best = took;
   }
@@ -195,15 +264,15 @@ static void measure(work *does, struct dump *d, int turns, int written) {
 
 int main(int argc, char **argv) {
   if (argc == 2 && strcmp(argv[1], "reformat") == 0) {
-    struct dump d = whole(STDIN_FILENO);
+    struct dump d = program(STDIN_FILENO);
     reformat(&d);
     return 0;
   }
-  if (argc < 4) die("usage: ours MODE FILE TURNS [ID], or ours reformat");
+  if (argc < 4) die("usage: ours MODE FILE TURNS [ID [SIZE]], or ours reformat");
   int file = open(argv[2], O_RDONLY);
   if (file < 0) die("cannot open the file");
   struct dump d = whole(file);
   if (argc > 4) expect("vcd_id_code", VCD_OK, vcd_id_code((const uint8_t *)argv[4], strlen(argv[4]), &d.code));
-  measure(mode_of(argv[1]), &d, atoi(argv[3]), strstr(argv[1], "bytes") != NULL);
+  measure(mode_of(argv[1]), &d, atoi(argv[3]), argc > 5 ? strtoull(argv[5], NULL, 10) : d.len, strstr(argv[1], "bytes") != NULL);
   return 0;
 }

@@ -12,7 +12,7 @@ use lib.Seq.{take-length, take-suc, take-append-seam, getD-append-seam, getD-dro
 use mir.Syntax.{w32}
 use mir.Val.{SFits, toZ}
 use mir.ValLaws.{toZ-pos}
-use Rattle.text.specs.Bytes.{starts, noBlank}
+use Rattle.text.specs.Bytes.{isBlank, starts, noBlank}
 use Rattle.text.specs.Texts.{part}
 use Rattle.text.specs.Utf8.{validUtf8}
 use Rattle.text.specs.WhiteSpace.{blanks, allWhite, keptOf}
@@ -28,9 +28,11 @@ use Rattle.number.proofs.Signs.{signed-plain}
 use Rattle.scope.specs.Index.{padded, upToByte, parseInside, parseIndex}
 use Rattle.scope.specs.declared.ParsedIndex.{ParsedIndex}
 use Rattle.scope.specs.declared.ReferenceIndex.{ReferenceIndex}
+use Rattle.token.specs.Read.{word}
+use Rattle.parser.specs.Quick.{Whole}
 use Rattle.brief.specs.Var.{Number, Closed, RangeAt, IndexAt}
 use Rattle.brief.specs.declared.var.Index.{Index}
-use Rattle.brief.proofs.Places.{Stands, stands-byte, stands-join, worded}
+use Rattle.brief.proofs.Places.{Stands, stands-byte, stands-join, worded, whole}
 
 -- ---- digits that were passed, from `at` up to i
 value-snoc : (v b : ℕ) (w : List ℕ) → value v (w ++ b ∷ []) ≡ value v w * 10 + (b - 48)
@@ -144,15 +146,17 @@ record Run (w : List ℕ) : Type 0 where
   all : allDigits w ≡ true
   small : value 0 w < 10 ^ 9
 
+run-read : (limit : ℕ) (w : List ℕ) → Run w → 10 ^ 9 ≤ limit → parseBelow limit w ≡ NumberRead.Is (value 0 w)
+run-read limit w r h =
+    sym (sign-no limit w (no-sign 43 w (omega arith) (r .some) (r .all)))
+    ∙ digits-mean limit w (r .some) (r .all) (omega (arith, r .small))
+
 number-read : (w : List ℕ) → Run w → padded w ≡ Signed.Is (pos (value 0 w))
 unfolding padded part
 number-read w r =
-    let below : parseBelow (2 ^ 31) w ≡ NumberRead.Is (value 0 w) =
-    sym (sign-no (2 ^ 31) w (no-sign 43 w (omega arith) (r .some) (r .all)))
-    ∙ digits-mean (2 ^ 31) w (r .some) (r .all) (omega (arith, r .small)) in
     let signed = signed-plain w (λ q. omega (arith, r .some)) (no-sign 45 w (omega arith) (r .some) (r .all)) in
     rw (none-first w (r .all), all-kept w (r .all), ne-eqb (length w) 0 (λ q. omega (arith, r .some)), take-length w)
-    (sym signed ∙ ap plain below)
+    (sym signed ∙ ap plain (run-read (2 ^ 31) w r (omega arith)))
 
 -- ---- in brackets
 past : (w r : List ℕ) → allDigits w ≡ true → upToByte 58 (w ++ r) ≡ w ++ upToByte 58 r
@@ -197,6 +201,12 @@ index-here s at e m x b p k few q =
 module _ (s : List ℕ) (at e v : ℕ) (d : Number s at e v) where
   run-here : Run (take (e - at) (drop at s))
   run-here = record { some = omega (arith, run-long s at e v d, d .some); all = d .digits; small = rw (d .means) (d .small) }
+
+  -- before a blank they are a number that is read
+  pub number-whole : isBlank (getD s e 0) ≡ true → Whole s at e × (parseBelow (2 ^ 64) (word (drop at s)) ≡ NumberRead.Is v)
+  number-whole b =
+      let w = whole s at e _ (stands-digits s at e v d) (d .inside) (d .some) (omega (arith, d .few)) b in
+      (w .0, rw (w .1, ← d .means) (run-read (2 ^ 64) _ run-here (omega arith)))
 
   -- the machine holds it as it is
   held : pos (value 0 (take (e - at) (drop at s))) ≡ toZ w32 v

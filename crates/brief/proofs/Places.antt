@@ -1,14 +1,17 @@
--- Laws of places: bytes of printable ASCII in a row, the word that they are where a blank stands behind them, and spaces. Assumes nothing.
-use Prim.Native.Nat.{ℕ, _+_, _-_, _≤_, _<_}
+-- Laws of places: bytes of printable ASCII in a row, the word that they are where a blank stands behind them, four as one number, and
+-- spaces. Assumes nothing.
+use Prim.Native.Nat.{ℕ, zero, suc, _+_, _-_, _*_, _%_, _≤_, _<_}
 use mathlib.Core.Path.{_≡_, refl, sym, ap, _∙_}
-use mathlib.Core.Bool.{true, not}
+use mathlib.Core.Bool.{Bool, true, false, not, cond}
 use mathlib.Core.List.{List, [], _∷_, _++_, append-assoc}
 use native.Mathlib.Nat.{add-zero, le-refl}
 use native.Mathlib.Decide.{decLt}
 use native.Mathlib.Omega.{arith}
+use lib.Dec.{eqb}
 use lib.ListN.{length, take, drop, getD, length-append}
 use lib.Seq.{take-length}
 use Rattle.text.specs.Bytes.{bytes, endMark, isBlank, noBlank}
+use Rattle.text.specs.Plain.{Plain as Printable}
 use Rattle.text.specs.Utf8.{lies, dueAfter, wellFormed, validUtf8}
 use Rattle.text.proofs.Blanks.{solid}
 use Rattle.text.proofs.Lists.{both, drop-step}
@@ -19,14 +22,19 @@ use Rattle.token.proofs.Words.{word-front}
 use Rattle.parser.specs.Quick.{Whole}
 use Rattle.brief.specs.Var.{Gap, Worded, Four, Names, Begins, Ends}
 
+-- ---- one place more: what holds from `at` up to i, and at i, holds up to e
+pub one-more : (P : ℕ → Type 0) (at i e : ℕ) → e ≡ i + 1 → ((j : ℕ) → at ≤ j → j < i → P j) → P i
+    → (j : ℕ) → at ≤ j → j < e → P j
+one-more P at i e n up here j l u = last (decLt j i)
+  where
+    last : Dec (j < i) → P j
+    last (yes k) = up j l k
+    last (no k) = let q : j ≡ i = omega arith in rw q here
+
 -- ---- spaces
 pub gap-more : (s : List ℕ) (at i : ℕ) → Gap s at i → i < length s → getD s i 0 ≡ 32 → Gap s at (i + 1)
 gap-more s at i g h e =
-    record { past = omega (arith, g .past); inside = omega arith; spaces = λ j l u. last j l u (decLt j i) }
-  where
-    last : (j : ℕ) → at ≤ j → j < i + 1 → Dec (j < i) → getD s j 0 ≡ 32
-    last j l u (yes k) = g .spaces j l k
-    last j l u (no k) = let q : j ≡ i = omega arith in rw q e
+    record { past = omega (arith, g .past); inside = omega arith; spaces = one-more (λ j. getD s j 0 ≡ 32) at i (i + 1) refl (g .spaces) e }
 
 -- ---- the bytes w stand from `at` up to e; none is a blank, and they are UTF-8
 pub record Stands (s : List ℕ) (at e : ℕ) (w : List ℕ) : Type 0 where
@@ -70,6 +78,15 @@ module _ (s : List ℕ) (at i : ℕ) (w : List ℕ) (p : Stands s at i w) where
       let k = stands-join (stands-more (omega arith) l u) (stands-byte s (i + 1) (getD s (i + 1) 0) h refl (omega arith) (omega arith)) in
       (_, rw two at k)
 
+-- all of a run of printable ASCII
+stands-run : (s : List ℕ) (at n e : ℕ) → at + n ≡ e → Printable s at e → e ≤ length s → (w : List ℕ) × Stands s at e w
+stands-run s at zero e q p h = let none : e ≡ at = omega (arith, q) in ([], rw none (stands-none s at))
+stands-run s at (suc n) e q p h =
+    let k = stands-run s at n (at + n) refl (λ i l u. p i l (omega (arith, q))) (omega (arith, q)) in
+    let b = p (at + n) (omega arith) (omega (arith, q)) in
+    let next : at + n + 1 ≡ e = omega (arith, q) in
+    (_, rw next at (stands-more s at (at + n) (k .0) (k .1) (omega (arith, q)) (b .0) (omega (arith, b .1))))
+
 -- ---- the word that they are
 module _ (s : List ℕ) (at e : ℕ) (w : List ℕ) (p : Stands s at e w) (inside : e < length s) where
   word-is : isBlank (getD s e 0) ≡ true → word (drop at s) ≡ w
@@ -85,6 +102,11 @@ module _ (s : List ℕ) (at e : ℕ) (w : List ℕ) (p : Stands s at e w) (insid
   whole some few b =
       let k = word-is b in
       (record { some = some; inside = inside; few = few; long = rw k (p .long); ended = b; text = rw k (p .text) }, k)
+
+pub plain-worded : (s : List ℕ) (at e : ℕ) → Printable s at e → at < e → e < length s → getD s e 0 ≡ 32 → Worded s at e
+plain-worded s at e p some inside b =
+    let k = stands-run s at (e - at) e (omega arith) p (omega arith) in
+    worded s at e (k .0) (k .1) inside some b .0
 
 -- the bytes of a word, as a part of the input
 pub word-bytes : (s : List ℕ) (at e : ℕ) → Worded s at e → take (e - at) (drop at s) ≡ word (drop at s)
@@ -139,3 +161,33 @@ var-here s at f h b =
     let last : at + 1 + 3 ≡ at + 4 = omega arith in
     let there = stands-three s (at + 1) _ _ _ (omega arith) (known .2) (f .1) (rw one (f .2)) (rw two (f .3)) in
     (f .0, worded s (at + 1) (at + 1 + 3) _ there (omega arith) (omega arith) (rw last b))
+
+-- ---- four bytes as one number
+abbrev quad : ℕ → ℕ → ℕ → ℕ → ℕ
+quad a b c d = a + 256 * b + 65536 * c + 16777216 * d
+
+abbrev quadAt : List ℕ → ℕ → ℕ
+quadAt s at = quad (getD s at 0) (getD s (at + 1) 0) (getD s (at + 2) 0) (getD s (at + 3) 0)
+
+-- the first is odd in `wire`, even in `reg`
+abbrev pub odd : List ℕ → ℕ → Bool
+odd s at = eqb (getD s at 0 % 2) 1
+
+first-same : (a m b n : ℕ) → a < 256 → b < 256 → a + 256 * m ≡ b + 256 * n → (a ≡ b) × (m ≡ n)
+first-same a m b n p q e = (omega arith, omega arith)
+
+module _ (s : List ℕ) (at : ℕ) (all : (i : ℕ) → getD s i 0 < 256) where
+  pub quad-same : (a b c d : ℕ) → a < 256 → b < 256 → c < 256 → quadAt s at ≡ quad a b c d → Four s at a b c d
+  quad-same a b c d p q r e =
+      let z : ℕ = getD s (at + 3) 0 in
+      let y : ℕ = getD s (at + 2) 0 + 256 * z in
+      let x : ℕ = getD s (at + 1) 0 + 256 * y in
+      let i = first-same (getD s at 0) x a (b + 256 * (c + 256 * d)) (all at) p (omega (arith, e)) in
+      let j = first-same (getD s (at + 1) 0) y b (c + 256 * d) (all (at + 1)) q (i .1) in
+      let k = first-same (getD s (at + 2) 0) z c d (all (at + 2)) r (j .1) in
+      (i .0, j .0, k .0, k .1)
+
+  pub usual-here : (wire : Bool) → at + 4 < length s → quadAt s at ≡ cond wire (quad 119 105 114 101) (quad 114 101 103 32)
+      → getD s (at + cond wire 4 3) 0 ≡ 32 → cond wire (Names s at "wire") (Names s at "reg")
+  usual-here true h e b = wire-here s at (quad-same 119 105 114 101 (omega arith) (omega arith) (omega arith) e) h b
+  usual-here false h e b = reg-here s at (quad-same 114 101 103 32 (omega arith) (omega arith) (omega arith) e) (omega arith)

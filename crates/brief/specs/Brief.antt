@@ -1,5 +1,5 @@
 -- What a quick look tells: the command that reading from there gives, wherever the lines stand. Of what is unusual it tells nothing.
-use Prim.Native.Nat.{ℕ, _+_, _-_, _^_, _<_}
+use Prim.Native.Nat.{ℕ, _+_, _-_, _^_, _≤_, _<_}
 use mathlib.Core.Path.{_≡_}
 use mathlib.Core.Bool.{true}
 use mathlib.Core.List.{List}
@@ -47,3 +47,15 @@ Tells s at (Brief.Time t e) = Reads s at e (Command.Timestamp (record { 0 = t })
 Tells s at (Brief.Scalar i e) = ReadsScalar s at e i
 Tells s at (Brief.Vector i stop e) = ReadsVector s at stop e i
 Tells s at Brief.Other = Unit {0}
+
+-- ---- looks where 34 bytes stand
+-- it tells of no command that has more, the blank that ends it among them
+abbrev pub Near : ℕ → Brief → Type 0
+Near at (Brief.Time t e) = e < at + 34
+Near at (Brief.Scalar i e) = e < at + 34
+Near at (Brief.Vector i stop e) = Unit {0}
+Near at Brief.Other = Unit {0}
+
+-- eight digits stand from `at` on
+abbrev pub Eight : List ℕ → ℕ → Type 0
+Eight s at = (i : ℕ) → at ≤ i → i < at + 8 → (48 ≤ getD s i 0) × (getD s i 0 ≤ 57)

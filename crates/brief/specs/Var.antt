@@ -1,9 +1,10 @@
 -- What a quick look at a variable's definition tells, and what its parts do.
-use Prim.Native.Nat.{ℕ, _+_, _-_, _^_, _≤_, _<_}
+use Prim.Native.Nat.{ℕ, _+_, _-_, _^_, _%_, _≤_, _<_}
 use Prim.Native.String.{String}
 use mathlib.Core.Path.{_≡_}
-use mathlib.Core.Bool.{true}
+use mathlib.Core.Bool.{true, cond}
 use mathlib.Core.List.{List}
+use lib.Dec.{eqb}
 use lib.ListN.{length, take, drop, getD}
 use Rattle.text.specs.Bytes.{bytes, starts, endMark}
 use Rattle.text.specs.Utf8.{validUtf8}
@@ -64,6 +65,10 @@ Begins s at = (getD s at 0 ≡ 36) × Names s (at + 1) "var"
 -- `$end` and a blank
 abbrev pub Ends : List ℕ → ℕ → Type 0
 Ends s at = Whole s at (at + 4) × (word (drop at s) ≡ endMark)
+
+-- `wire` or `reg`, as the first byte is odd or even, and a space
+abbrev pub Usual : List ℕ → ℕ → Type 0
+Usual s at = cond (eqb (getD s at 0 % 2) 1) (Names s at "wire") (Names s at "reg")
 
 -- ---- parts
 -- a type within the limit

@@ -8,13 +8,19 @@ use scope::ReferenceIndex;
 use scope::Var;
 use scope::VarType;
 use text::Text;
-ghost use Prim.Native.Nat.{_+_, _≤_, _<_};
-ghost use mathlib.Core.Bool.{true};
+ghost use Prim.Native.Nat.{_+_, _*_, _≤_, _<_};
+ghost use mathlib.Core.Bool.{true, cond};
 ghost use mathlib.Core.Path.{_≡_};
 ghost use lib.ListN.{length};
 ghost use Rattle.scope.specs.declared.ParsedVarType.{ParsedVarType};
+ghost use Rattle.scope.specs.declared.VarType.{VarType};
 ghost use Rattle.parser.specs.Plan.{varOf, varId, varName, varEnd};
-ghost use Rattle.brief.specs.Var.{TellsVar, Gap, Worded, Four, Ends, Begins, Names, Typed as TypedAt, Goes, IndexAt, RangeAt, Digits, Closed, variable as variableOf};
+ghost use Rattle.brief.specs.Var.{TellsVar, Gap, Worded, Four, Ends, Begins, Usual, Typed as TypedAt, Goes, IndexAt, RangeAt, Digits, Closed, variable as variableOf};
+
+// `wire`, and `reg` with a space, as `quad` makes them.
+const WIRE: u32 = 1701996919;
+
+const REG: u32 = 543647090;
 
 // The variable that stands there, with the place of the blank that ends it; or anything else.
 pub enum Variable {
@@ -55,11 +61,9 @@ fn type_at(input: &[u8], at: usize) -> Typed
     requires { ⌜ (at ≤ length (now input)) × (length (now input) ≤ 4294967295) ⌝ }
     ensures { λ r. ⌜ TypedAt (now (input .entry)) at r ⌝ }
 {
-    if is_wire(input, at) {
-        return Typed::Is(VarType::Wire, at + 4);
-    }
-    if is_reg(input, at) {
-        return Typed::Is(VarType::Reg, at + 3);
+    if is_usual(input, at) {
+        let wire = input[at] % 2 == 1;
+        return Typed::Is(usual_type(wire), usual_end(at, wire));
     }
     let end = word_end(input, at);
     if end <= at || at + 32 < end {
@@ -242,8 +246,43 @@ fn spaces_end(input: &[u8], at: usize) -> usize
     i
 }
 
-// Where the word of printable ASCII ends that starts at `at`, and a space stands; `at` where there is none such.
+// Where the word of printable ASCII ends that starts at `at`, and a space stands; `at` where there is none such. The end of a word of
+// 8 to 15 bytes is guessed, and the guess held to the bytes.
 fn word_end(input: &[u8], at: usize) -> usize
+    requires { ⌜ (at ≤ length (now input)) × (length (now input) ≤ 4294967295) ⌝ }
+    ensures { λ r. ⌜ (at < r → Worded (now (input .entry)) at r) ⌝ }
+{
+    if input.len() <= at + 16 {
+        return word_end_plain(input, at);
+    }
+    let end = at + 8 + guess(octet(input, at + 8));
+    if input[end] == b' ' && text::plain_eight(input, at) && text::plain_eight(input, end - 8) {
+        return end;
+    }
+    word_end_plain(input, at)
+}
+
+// Eight bytes as one number.
+fn octet(input: &[u8], at: usize) -> u64
+    requires { ⌜ (at + 8 ≤ length (now input)) × (length (now input) ≤ 4294967295) ⌝ }
+{
+    let low = quad(input[at], input[at + 1], input[at + 2], input[at + 3]);
+    let high = quad(input[at + 4], input[at + 5], input[at + 6], input[at + 7]);
+    low as u64 + 4294967296 * (high as u64)
+}
+
+// How many bytes of eight stand before the first space: where x is 0, and no byte below it is, 1 taken off each sets its highest bit.
+fn guess(word: u64) -> usize
+    ensures { λ r. ⌜ r ≤ 8 ⌝ }
+{
+    let x = word ^ 0x2020202020202020;
+    let y = std::num::wrapping_sub_u64(x, 0x0101010101010101);
+    let n = u64::trailing_zeros(y & (x ^ 0xffffffffffffffff) & 0x8080808080808080);
+    if 64 < n { 8 } else { (n / 8) as usize }
+}
+
+// The same of a word of any length.
+fn word_end_plain(input: &[u8], at: usize) -> usize
     requires { ⌜ (at ≤ length (now input)) × (length (now input) ≤ 4294967295) ⌝ }
     ensures { λ r. ⌜ (at < r → Worded (now (input .entry)) at r) ⌝ }
 {
@@ -272,7 +311,15 @@ fn four(input: &[u8], at: usize, a: u8, b: u8, c: u8, d: u8) -> bool
     requires { ⌜ (at + 3 < length (now input)) × (length (now input) ≤ 4294967295) ⌝ }
     ensures { λ r. ⌜ (r ≡ true → Four (now (input .entry)) at a b c d) ⌝ }
 {
-    input[at] == a && input[at + 1] == b && input[at + 2] == c && input[at + 3] == d
+    let word = quad(input[at], input[at + 1], input[at + 2], input[at + 3]);
+    word == quad(a, b, c, d)
+}
+
+// Four bytes as one number, so that the compiler compares them at once.
+fn quad(a: u8, b: u8, c: u8, d: u8) -> u32
+    ensures { λ r. ⌜ r ≡ a + 256 * b + 65536 * c + 16777216 * d ⌝ }
+{
+    a as u32 + 256 * (b as u32) + 65536 * (c as u32) + 16777216 * (d as u32)
 }
 
 // Whether `$end` and a blank stand at `at`.
@@ -297,24 +344,31 @@ fn begins(input: &[u8], at: usize) -> bool
     four(input, at, b'$', b'v', b'a', b'r') && input[at + 4] == b' '
 }
 
-// Whether `wire` and a space stand at `at`.
-fn is_wire(input: &[u8], at: usize) -> bool
+// Whether `wire` or `reg` and a space stand at `at`. Which of the two cannot be foreseen: the first byte, odd or even, chooses what the
+// word is compared with, not a way.
+fn is_usual(input: &[u8], at: usize) -> bool
     requires { ⌜ (at ≤ length (now input)) × (length (now input) ≤ 4294967295) ⌝ }
-    ensures { λ r. ⌜ (r ≡ true → Names (now (input .entry)) at "wire") ⌝ }
+    ensures { λ r. ⌜ (r ≡ true → Usual (now (input .entry)) at) ⌝ }
 {
     if input.len() <= at + 4 {
         return false;
     }
-    four(input, at, b'w', b'i', b'r', b'e') && input[at + 4] == b' '
+    let wire = input[at] % 2 == 1;
+    let want: u32 = if wire { WIRE } else { REG };
+    let word = quad(input[at], input[at + 1], input[at + 2], input[at + 3]);
+    word == want && input[usual_end(at, wire)] == b' '
 }
 
-// Whether `reg` and a space stand at `at`.
-fn is_reg(input: &[u8], at: usize) -> bool
-    requires { ⌜ (at ≤ length (now input)) × (length (now input) ≤ 4294967295) ⌝ }
-    ensures { λ r. ⌜ (r ≡ true → Names (now (input .entry)) at "reg") ⌝ }
+fn usual_type(wire: bool) -> VarType
+    ensures { λ r. ⌜ r ≡ cond wire VarType.Wire VarType.Reg ⌝ }
 {
-    if input.len() <= at + 3 {
-        return false;
-    }
-    four(input, at, b'r', b'e', b'g', b' ')
+    if wire { VarType::Wire } else { VarType::Reg }
+}
+
+// Where its space stands.
+fn usual_end(at: usize, wire: bool) -> usize
+    requires { ⌜ at ≤ 4294967295 ⌝ }
+    ensures { λ r. ⌜ r ≡ at + cond wire 4 3 ⌝ }
+{
+    if wire { at + 4 } else { at + 3 }
 }

@@ -2,7 +2,7 @@
 -- Assumes nothing.
 use Prim.Native.Nat.{ℕ, _+_, _-_, _/_, _%_, _^_, _≤_, _<_}
 use mathlib.Core.Path.{_≡_, refl, sym, ap, subst, _∙_}
-use mathlib.Core.List.{List, [], _∷_, _++_}
+use mathlib.Core.List.{List, [], _∷_, _++_, append-assoc}
 use native.Mathlib.Nat.{zero-add}
 use native.Mathlib.Omega.{arith}
 use borrow.Author.Tests.{le-leb}
@@ -11,6 +11,7 @@ use denote.Enum.Declared.{row}
 use denote.Enum.Laws.{vals, owed}
 use denote.Laws.{Is}
 use lib.ListN.{length, take, drop, length-append}
+use lib.Seq.{length-take-le, take-append-seam, drop-append-seam, drop-append-add}
 use Rattle.text.specs.Bytes.{bytes}
 use Rattle.text.specs.Texts.{putAnswer, putBytes}
 use Rattle.text.specs.declared.Placed.{Placed}
@@ -36,6 +37,20 @@ pub both : (o : List ℕ) (at : ℕ) (w v : List ℕ) {u o′ o″ : List ℕ} {
 both o at w v {u} {o′} {o″} {r} {r′} e h p q =
     subst (λ (l : List ℕ). Puts o at l r′ o″) e
     (omega (arith, p .0, q .0, length-append w v), q .1 ∙ rw (p .0, p .1) (stored-next o at (omega arith) w v))
+
+-- a text whose end is put again where it stands
+there : (q w r : List ℕ) → stored (q ++ (w ++ r)) (length q) w ≡ q ++ (w ++ r)
+unfolding stored
+there q w r = simp (take-append-seam, drop-append-add, drop-append-seam)
+
+parted : (o : List ℕ) (at : ℕ) (p w : List ℕ) → stored o at (p ++ w) ≡ (take at o ++ p) ++ (w ++ drop (at + length (p ++ w)) o)
+unfolding stored
+parted o at p w = simp append-assoc
+
+pub again : (o : List ℕ) (at : ℕ) (p w : List ℕ) → at ≤ length o → stored (stored o at (p ++ w)) (at + length p) w ≡ stored o at (p ++ w)
+again o at p w h =
+    let n : length (take at o ++ p) ≡ at + length p = length-append (take at o) p ∙ rw (length-take-le at o h) in
+    rw (← n, parted o at p w) (there (take at o ++ p) w (drop (at + length (p ++ w)) o))
 
 -- a number of two digits
 pub two-digits : (n : ℕ) → 10 ≤ n → n < 100 → ((48 + n / 10) ∷ []) ++ ((48 + n % 10) ∷ []) ≡ decimalOf n

@@ -1,6 +1,7 @@
 -- The text of a variable's definition, and what the parts put.
 use Prim.Native.Nat.{ℕ, _+_}
 use mathlib.Core.Path.{_≡_}
+use mathlib.Core.Bool.{Bool, cond}
 use mathlib.Core.List.{List, [], _∷_, _++_}
 use lib.ListN.{length}
 use Rattle.text.specs.Bytes.{bytes}
@@ -23,6 +24,10 @@ abbrev pub varText : VarType → ℕ → IdCode → List ℕ → ReferenceIndex 
 varText k n i t x =
     concat
     (bytes "$var " ∷ bytes (varName k) ∷ bytes " " ∷ decimalOf n ∷ bytes " " ∷ idText (i .0) ∷ bytes " " ∷ t ∷ indexed x ∷ bytes " $end\n" ∷ [])
+
+-- one of the two usual types, and a space
+abbrev pub usual : Bool → List ℕ
+usual wire = cond wire (bytes "wire ") (bytes "reg ")
 
 -- the text w was put into the output o from `at` on, and r is the place behind it
 abbrev pub Puts : List ℕ → ℕ → List ℕ → ℕ → List ℕ → Type 0

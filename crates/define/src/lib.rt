@@ -5,6 +5,7 @@ use scope::VarType;
 use text::Placed;
 use text::Spelled;
 ghost use mathlib.Core.Path.{_≡_};
+ghost use mathlib.Core.Bool.{true, false, cond};
 ghost use mathlib.Core.List.{[], _∷_, _++_};
 ghost use Prim.Native.Nat.{_+_, _≤_};
 ghost use lib.ListN.{length, take};
@@ -13,7 +14,8 @@ ghost use Rattle.text.specs.Texts.{putAnswer, putBytes, spelled, textIn};
 ghost use Rattle.number.specs.Decimal.{decimalOf, signedOf};
 ghost use Rattle.idcode.specs.Id.{idText};
 ghost use Rattle.scope.specs.Types.{varName};
-ghost use Rattle.define.specs.Define.{indexed as indexedText, varText, Puts};
+ghost use Rattle.scope.specs.declared.VarType.{VarType};
+ghost use Rattle.define.specs.Define.{indexed as indexedText, varText, usual, Puts};
 
 // Type, width, id and index of a definition, with what stands round them, have no more bytes than this.
 const MOST: usize = 96;
@@ -100,7 +102,6 @@ fn put_var(
     let n = put_four(out, 0, b'$', b'v', b'a', b'r');
     let n = put_byte(out, n, b' ');
     let n = put_type(out, n, t);
-    let n = put_byte(out, n, b' ');
     let n = put_number(out, n, width as u64);
     let n = put_byte(out, n, b' ');
     let n = put_id(out, n, id);
@@ -131,24 +132,52 @@ fn put_four(out: &mut [u8], at: usize, a: u8, b: u8, c: u8, d: u8) -> usize
     at + 4
 }
 
-// The two usual types are put byte by byte.
+// A type's name and a space.
 fn put_type(out: &mut [u8], at: usize, t: VarType) -> usize
-    requires { ⌜ at + length (bytes (varName t)) ≤ length (now out) ⌝ }
-    ensures { λ r. ⌜ Puts (now (out .entry)) at (bytes (varName t)) r (now (out .exit)) ⌝ }
+    requires { ⌜ at + length (bytes (varName t) ++ bytes " ") ≤ length (now out) ⌝ }
+    ensures { λ r. ⌜ Puts (now (out .entry)) at (bytes (varName t) ++ bytes " ") r (now (out .exit)) ⌝ }
 {
     match t {
-        VarType::Wire => put_four(out, at, b'w', b'i', b'r', b'e'),
-        VarType::Reg => {
-            let n = put_byte(out, at, b'r');
-            let n = put_byte(out, n, b'e');
-            put_byte(out, n, b'g')
-        }
+        VarType::Wire | VarType::Reg => put_usual(out, at, is_wire(t)),
         _ => {
             let k = t.spell();
             let kind = k.bytes;
-            lay::put(out, at, lay::front(&kind, k.len))
+            let n = lay::put(out, at, lay::front(&kind, k.len));
+            put_byte(out, n, b' ')
         }
     }
+}
+
+fn is_wire(t: VarType) -> bool
+    ensures { λ r. ⌜ (t ≡ VarType.Wire → r ≡ true) × (t ≡ VarType.Reg → r ≡ false) ⌝ }
+{
+    match t {
+        VarType::Wire => true,
+        _ => false,
+    }
+}
+
+fn either(first: bool, a: u8, b: u8) -> u8
+    ensures { λ r. ⌜ r ≡ cond first a b ⌝ }
+{
+    if first { a } else { b }
+}
+
+// `wire` or `reg`, and a space. Which of the two cannot be foreseen, so it chooses bytes, not a way.
+fn put_usual(out: &mut [u8], at: usize, wire: bool) -> usize
+    requires { ⌜ at + length (usual wire) ≤ length (now out) ⌝ }
+    ensures { λ r. ⌜ Puts (now (out .entry)) at (usual wire) r (now (out .exit)) ⌝ }
+{
+    let end = if wire { at + 4 } else { at + 3 };
+    put_four(
+        out,
+        at,
+        either(wire, b'w', b'r'),
+        either(wire, b'i', b'e'),
+        either(wire, b'r', b'g'),
+        either(wire, b'e', b' '),
+    );
+    put_byte(out, end, b' ')
 }
 
 fn put_number(out: &mut [u8], at: usize, n: u64) -> usize

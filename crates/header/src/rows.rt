@@ -10,6 +10,8 @@ use text::Text;
 ghost use mathlib.Core.Path.{_≡_};
 ghost use Prim.Native.Nat.{_+_, _*_, _≤_, _<_};
 ghost use mathlib.Core.List.{[], _∷_};
+ghost use mathlib.Core.Bool.{cond};
+ghost use lib.Dec.{eqb};
 ghost use lib.ListN.{length, getD};
 ghost use Rattle.header.specs.Rows.{allZero, variable as variableOf, rowAt, rowOf, rowWords, parentOf, parentWord, indexOf, isIndex, indexWords, signedOf, wordOf, put};
 
@@ -164,12 +166,26 @@ pub fn parent_word(p: Parent) -> u64
 pub fn is_index(form: u64, a: u64, b: u64) -> bool
     ensures { λ r. ⌜ r ≡ isIndex form a b ⌝ }
 {
-    match form {
-        0 => a == 0 && b == 0,
-        1 => a < 4294967296 && b == 0,
-        2 => a < 4294967296 && b < 4294967296,
-        _ => false,
+    if 2 < form {
+        return false;
     }
+    if most_first(form) < a {
+        return false;
+    }
+    b <= most_second(form)
+}
+
+// The largest numbers of a form. Which form it is cannot be foreseen, so it chooses numbers, not ways.
+fn most_first(form: u64) -> u64
+    ensures { λ r. ⌜ r ≡ cond (eqb form 0) 0 4294967295 ⌝ }
+{
+    if form == 0 { 0 } else { 4294967295 }
+}
+
+fn most_second(form: u64) -> u64
+    ensures { λ r. ⌜ r ≡ cond (eqb form 2) 4294967295 0 ⌝ }
+{
+    if form == 2 { 4294967295 } else { 0 }
 }
 
 pub fn index_of(form: u64, a: u64, b: u64) -> ReferenceIndex

@@ -1,6 +1,6 @@
 -- Words stored in a buffer one after the other from its start are their concatenation at its start; so is one that a call put into a
 -- part of the buffer, with what is stored before and behind it.
-use Prim.Native.Nat.{ℕ, suc, _+_, _≤_, _<_}
+use Prim.Native.Nat.{ℕ, zero, suc, _+_, _-_, _≤_, _<_}
 use mathlib.Core.Path.{_≡_, refl, sym, ap, _∙_}
 use mathlib.Core.Bool.{Bool, true, false, not}
 use mathlib.Core.List.{List, [], _∷_, _++_, append-assoc, append-nil}
@@ -11,7 +11,7 @@ use borrow.Author.Tests.{le-leb, lt-leb, leb-true, leb-false, not-true, not-fals
 use lib.Dec.{leb}
 use borrow.Rule.Slice.PartMut.{putMid}
 use lib.ListN.{length, take, drop, set, getD, length-append, length-drop, take-append-drop}
-use lib.Seq.{take-append-seam, take-append-le, take-take, drop-append-le, drop-append-add, drop-at, drop-drop, length-take-le, set-split, paste-suc}
+use lib.Seq.{take-append-seam, take-append-le, take-take, take-at, take-add, drop-append-le, drop-append-add, drop-at, drop-drop, getD-drop, length-take-le, set-split, paste-suc}
 use Rattle.text.specs.Texts.{spelled, textIn, putAnswer, putBytes}
 use Rattle.text.specs.declared.Placed.{Placed}
 use Rattle.text.specs.declared.Spelled.{Spelled}
@@ -61,6 +61,20 @@ stored-more o w at i ho hw =
 pub stored-step : (o w : List ℕ) (at i : ℕ) {out : List ℕ} {n v : ℕ} → out ≡ stored o at (take i w) → n ≡ at + i → v ≡ getD w i 0
     → at + i < length o → i < length w → set out n v ≡ stored o at (take (i + 1) w)
 stored-step o w at i e p q h g = rw (e, p, q) (stored-more o w at i h g)
+
+-- the n + 1 bytes of w from `from` on, in a row
+abbrev pub each : List ℕ → ℕ → List ℕ → ℕ → ℕ → List ℕ
+each o at w from zero = set o at (getD w from 0)
+each o at w from (suc n) = set (each o at w from n) (at + suc n) (getD w (from + suc n) 0)
+
+pub each-stored : (o w : List ℕ) (at from n : ℕ) → at + n < length o → from + n < length w
+    → each o at w from n ≡ stored o at (take (suc n) (drop from w))
+each-stored o w at from zero h g =
+    let v : getD (drop from w) 0 0 ≡ getD w from 0 = getD-drop from w 0 0 ∙ rw (add-zero from) in
+    stored-step o (drop from w) at 0 (stored-none o at) (sym (add-zero at)) (sym v) h (simp length-drop (omega arith))
+each-stored o w at from (suc n) h g =
+    let e = each-stored o w at from n (omega arith) (omega arith) in
+    rw (add-one (suc n)) at (stored-step o (drop from w) at (suc n) e refl (sym (getD-drop from w (suc n) 0)) h (simp length-drop (omega arith)))
 
 -- ---- a run of words, each from where the last one ended: what it leaves, and where it ends
 abbrev pub puts : List ℕ → ℕ → List (List ℕ) → List ℕ
@@ -118,16 +132,20 @@ module _ (o : List ℕ) where
       )
 
 -- ---- how they are answered and left
+-- a text of n bytes at the start
+pub standing : (t o : List ℕ) (n : ℕ) → length t ≡ n → n ≤ length o → {r : Placed} {left : List ℕ}
+    → (r ≡ Placed.Count n) × (left ≡ stored o 0 t) → (r ≡ putAnswer t o) × (left ≡ putBytes t o)
+unfolding putAnswer putBytes stored
+standing t o n l h e = rw (le-leb (length t) (length o) (omega arith)) (e .0 ∙ ap Placed.Count (sym l), e .1 ∙ rw (zero-add (length t)))
+
 module _ (w : List ℕ) (ws : List (List ℕ)) (o : List ℕ) where
   pub lay-none : length o < total (length w) ws → (Placed.NoRoom ≡ putAnswer (concat (w ∷ ws)) o) × (o ≡ putBytes (concat (w ∷ ws)) o)
   lay-none h = no-room (concat (w ∷ ws)) o (omega (arith, total-is ws (length w), length-append w (concat ws)))
 
   pub lay-done : {n : ℕ} {left : List ℕ} → total (length w) ws ≤ length o → (n ≡ length (concat (w ∷ ws))) × (left ≡ stored o 0 (concat (w ∷ ws)))
       → (Placed.Count n ≡ putAnswer (concat (w ∷ ws)) o) × (left ≡ putBytes (concat (w ∷ ws)) o)
-  unfolding putAnswer putBytes stored
-  lay-done h e =
-      let l : length (concat (w ∷ ws)) ≤ length o = omega (arith, total-is ws (length w), length-append w (concat ws)) in
-      rw (le-leb (length (concat (w ∷ ws))) (length o) l) (ap Placed.Count (e .0), e .1 ∙ rw (zero-add (length (concat (w ∷ ws)))))
+  lay-done {n} h e =
+      standing (concat (w ∷ ws)) o n (sym (e .0)) (omega (arith, total-is ws (length w), length-append w (concat ws), e .0)) (refl, e .1)
 
 -- ---- one byte, the length, and a word before another
 pub stored-byte : (o : List ℕ) (n v : ℕ) → n < length o → set o n v ≡ stored o n (v ∷ [])
@@ -151,6 +169,40 @@ stored-before o p w at h =
       ← add-assoc at (length p) (length w),
       append-assoc p w (drop (m + length w) o),
     )
+
+-- ---- a word over one that stands there in part
+stored-again : (o q r : List ℕ) (at : ℕ) → at ≤ length o → length q ≤ length r → stored (stored o at q) at r ≡ stored o at r
+unfolding stored
+stored-again o q r at h g =
+    let m : ℕ = at + length q in
+    let k : ℕ = length r - length q in
+    let n : length (take at o) ≡ at = length-take-le at o h in
+    let e : at + length r ≡ m + k = omega arith in
+    let tail : drop m ((take at o ++ q) ++ drop m o) ≡ drop m o = drop-at (take at o ++ q) (drop m o) m (length-append (take at o) q ∙ rw n) in
+    rw (
+      take-at (take at o) (q ++ drop m o) at n,
+      ← append-assoc (take at o) q (drop m o),
+      e,
+      ← drop-drop k m (take at o ++ q ++ drop m o),
+      tail,
+      drop-drop k m o,
+    )
+
+-- the n bytes of w from k on, over those of its first i that are there
+pub stored-over : (o w : List ℕ) (at i k n : ℕ) → at + i ≤ length o → k ≤ i → i ≤ k + n → k + n ≤ length w
+    → stored (stored o at (take i w)) (at + k) (take n (drop k w)) ≡ stored o at (take (k + n) w)
+stored-over o w at i k n h a b g =
+    let m : ℕ = i - k in
+    let e : i ≡ k + m = omega arith in
+    let p : List ℕ = take k w in
+    let q : List ℕ = take m (drop k w) in
+    let r : List ℕ = take n (drop k w) in
+    let lp : length p ≡ k = length-take-le k w (omega arith) in
+    let lq : length q ≡ m = length-take-le m (drop k w) (simp length-drop (omega arith)) in
+    let lr : length r ≡ n = length-take-le n (drop k w) (simp length-drop (omega arith)) in
+    let next = stored-next o at (omega arith) p in
+    let again = stored-again (stored o at p) q r (at + length p) (rw (stored-length o at p (omega arith)) (omega arith)) (omega arith) in
+    rw (e, take-add k m w, take-add k n w) (rw (next q, next r, lp) at again)
 
 -- ---- a word that a call put at the start of the k bytes from `at` on
 module _ (t o : List ℕ) (at k : ℕ) (h : at + k ≤ length o) where

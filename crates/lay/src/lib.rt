@@ -4,11 +4,12 @@ use idcode::IdCode;
 use text::Placed;
 ghost use mathlib.Core.Path.{_≡_};
 ghost use mathlib.Core.List.{[], _∷_, _++_, map};
-ghost use Prim.Native.Nat.{_+_, _≤_};
+ghost use Prim.Native.Nat.{_+_, _/_, _%_, _≤_, _<_};
 ghost use lib.Dec.{leb};
-ghost use lib.ListN.{length, take};
+ghost use lib.ListN.{length, take, drop};
 ghost use Rattle.text.specs.Bytes.{bytes};
 ghost use Rattle.text.specs.Texts.{putAnswer, putBytes};
+ghost use Rattle.text.specs.declared.Placed.{Placed};
 ghost use Rattle.value.specs.Values.{lower};
 ghost use Rattle.lay.specs.Put.{concat, stored, timeText, scalarText, vectorText, Inside, closedAnswer, closedBytes};
 
@@ -39,6 +40,25 @@ pub fn put(out: &mut [u8], at: usize, word: &[u8]) -> usize
     requires { ⌜ at + length (now word) ≤ length (now out) ⌝ }
     ensures { λ r. ⌜ (r ≡ at + length (now (word .entry))) × (now (out .exit) ≡ stored (now (out .entry)) at (now (word .entry))) ⌝ }
 {
+    if word.len() < 8 {
+        return put_few(out, at, word);
+    }
+    // Eight bytes a turn; the last eight may be there in part.
+    let last = word.len() - 8;
+    let mut i = 0;
+    while i < last {
+        put_eight(out, at + i, word, i);
+        i += 8;
+    }
+    put_eight(out, at + last, word, last);
+    at + word.len()
+}
+
+// The same one byte a turn.
+fn put_few(out: &mut [u8], at: usize, word: &[u8]) -> usize
+    requires { ⌜ at + length (now word) ≤ length (now out) ⌝ }
+    ensures { λ r. ⌜ (r ≡ at + length (now (word .entry))) × (now (out .exit) ≡ stored (now (out .entry)) at (now (word .entry))) ⌝ }
+{
     let mut i = 0;
     let mut o = at;
     while i < word.len() {
@@ -47,6 +67,29 @@ pub fn put(out: &mut [u8], at: usize, word: &[u8]) -> usize
         i += 1;
     }
     o
+}
+
+// The eight bytes of the word from `from` on. All are read before one is written, so that the compiler moves them at once.
+fn put_eight(out: &mut [u8], at: usize, word: &[u8], from: usize)
+    requires { ⌜ (at + 8 ≤ length (now out)) × (from + 8 ≤ length (now word)) ⌝ }
+    ensures { λ _. ⌜ now (out .exit) ≡ stored (now (out .entry)) at (take 8 (drop from (now (word .entry)))) ⌝ }
+{
+    let a = word[from];
+    let b = word[from + 1];
+    let c = word[from + 2];
+    let d = word[from + 3];
+    let e = word[from + 4];
+    let f = word[from + 5];
+    let g = word[from + 6];
+    let h = word[from + 7];
+    out[at] = a;
+    out[at + 1] = b;
+    out[at + 2] = c;
+    out[at + 3] = d;
+    out[at + 4] = e;
+    out[at + 5] = f;
+    out[at + 6] = g;
+    out[at + 7] = h;
 }
 
 // The same in lower case.
@@ -121,10 +164,38 @@ fn close(first: u8, p: Placed, out: &mut [u8]) -> Placed
     }
 }
 
+// A timestamp of eight digits, taken apart by halves: no digit waits for all those behind it.
+fn lay_eight(n: u64, out: &mut [u8]) -> Placed
+    requires { ⌜ (10000000 ≤ n) × (n < 100000000) × (10 ≤ length (now out)) ⌝ }
+    ensures { λ r. ⌜ (r ≡ Placed.Count 10) × (now (out .exit) ≡ stored (now (out .entry)) 0 (timeText n)) ⌝ }
+{
+    let high = n / 10000;
+    let low = n % 10000;
+    out[0] = b'#';
+    put_pair(out, 1, high / 100);
+    put_pair(out, 3, high % 100);
+    put_pair(out, 5, low / 100);
+    put_pair(out, 7, low % 100);
+    out[9] = b'\n';
+    Placed::Count(10)
+}
+
+// Two digits.
+fn put_pair(out: &mut [u8], at: usize, n: u64)
+    requires { ⌜ (at + 2 ≤ length (now out)) × (n < 100) ⌝ }
+    ensures { λ _. ⌜ now (out .exit) ≡ stored (now (out .entry)) at ((48 + n / 10) ∷ (48 + n % 10) ∷ []) ⌝ }
+{
+    out[at] = 48 + (n / 10) as u8;
+    out[at + 1] = 48 + (n % 10) as u8;
+}
+
 // A timestamp.
 pub fn lay_time(n: u64, out: &mut [u8]) -> Placed
     ensures { λ r. ⌜ (r ≡ putAnswer (timeText n) (now (out .entry))) × (now (out .exit) ≡ putBytes (timeText n) (now (out .entry))) ⌝ }
 {
+    if 10000000 <= n && n < 100000000 && 10 <= out.len() {
+        return lay_eight(n, out);
+    }
     if out.len() < 2 {
         return Placed::NoRoom;
     }
@@ -132,10 +203,24 @@ pub fn lay_time(n: u64, out: &mut [u8]) -> Placed
     close(b'#', number::put_decimal(n, &mut out[1..last]), out)
 }
 
+// A scalar's change whose id has one byte.
+fn lay_short(value: u8, id: u8, out: &mut [u8]) -> Placed
+    requires { ⌜ 3 ≤ length (now out) ⌝ }
+    ensures { λ r. ⌜ (r ≡ Placed.Count 3) × (now (out .exit) ≡ stored (now (out .entry)) 0 (value ∷ id ∷ 10 ∷ [])) ⌝ }
+{
+    out[0] = value;
+    out[1] = id;
+    out[2] = b'\n';
+    Placed::Count(3)
+}
+
 // A scalar's change: the value's byte, and the id.
 pub fn lay_scalar(value: u8, id: IdCode, out: &mut [u8]) -> Placed
     ensures { λ r. ⌜ (r ≡ putAnswer (scalarText value (id .0)) (now (out .entry))) × (now (out .exit) ≡ putBytes (scalarText value (id .0)) (now (out .entry))) ⌝ }
 {
+    if id.0 < 94 && 3 <= out.len() {
+        return lay_short(value, 33 + id.0 as u8, out);
+    }
     if out.len() < 2 {
         return Placed::NoRoom;
     }

@@ -14,11 +14,13 @@ use Rattle.idcode.specs.declared.IdCode.{IdCode}
 use Rattle.parser.specs.All.{command, followed, commands}
 use Rattle.parser.specs.Next.{nextFrom}
 use Rattle.parser.specs.declared.Next.{Next}
+use Rattle.parser.proofs.Ahead.{command-past}
 use Rattle.parser.proofs.All.{commands-step}
 use Rattle.text.proofs.Lists.{by-test}
 use Rattle.text.specs.declared.Text.{Text}
+use Rattle.token.specs.Read.{Valid}
 use Rattle.token.specs.declared.Cursor.{Cursor}
-use Rattle.listing.specs.Listing.{Told, time, change, other, told, ofCode, Entry, entries, sinceAfter, changes, stopOf, lastOf, rowsIn, beyond, roomed, listOf, answerOf, filled}
+use Rattle.listing.specs.Listing.{Told, time, change, other, told, ofCode, Entry, entries, sinceAfter, changes, stopOf, lastOf, rowsIn, beyond, roomed, listOf, answerOf, filled, Passes}
 use Rattle.listing.specs.Rows.{changeWords, wordsOf, put}
 use Rattle.listing.specs.declared.Ended.{Ended}
 use Rattle.listing.specs.declared.Told.{Told as Tells}
@@ -91,6 +93,26 @@ pub ahead-done : (s : List ℕ) (i : IdCode) (c d : Cursor) (t : Since) → next
 unfolding changes
 ahead-done s i c d t q = ap (changes s i c t) (read-as s c _ q)
 
+-- ---- over commands that are no changes of the code: none, one more, and two runs
+module _ (s : List ℕ) (i : IdCode) where
+  pub passes-start : (c : Cursor) (t : Since) → Valid s c → Passes s i c t c t
+  passes-start c t v = record { same = refl; stops = refl; last = refl; valid = v; past = omega arith }
+
+  pub passes-read : (c d : Cursor) (t : Since) (r : Tells) → Read s i c d r → gives c t (d .line) r ≡ [] → Passes s i c t d (later t r)
+  passes-read c d t r h g =
+      let f = command-past s c (h .command) d (h .next) .0 in
+      record {
+        same = ahead-step s c d (h .command) (h .next) i t r (h .tells) ∙ rw g;
+        stops = stop-step s c d (h .command) (h .next);
+        last = last-step s c d (h .command) (h .next);
+        valid = f .valid;
+        past = f .ahead;
+      }
+
+  pub passes-on : (c d e : Cursor) (t u w : Since) → Passes s i c t d u → Passes s i d u e w → Passes s i c t e w
+  passes-on c d e t u w p q =
+      record { same = p .same ∙ q .same; stops = p .stops ∙ q .stops; last = p .last ∙ q .last; valid = q .valid; past = omega (arith, p .past, q .past) }
+
 -- ---- the listing of the code i from c₀ into the table t₀, where the cursor is c, n rows are made and the last time is t
 pub record Listed (s : List ℕ) (i : IdCode) (c₀ : Cursor) (t₀ table : List ℕ) (c : Cursor) (n : ℕ) (t : Since) : Type 0 where
   pub made : List Entry
@@ -121,17 +143,17 @@ module _ (s : List ℕ) (i : IdCode) (c₀ : Cursor) (t₀ table : List ℕ) (c 
   pub listed-length : length table ≡ length t₀
   listed-length = ap length (l .stored) ∙ filled-length (rowsIn (l .made)) t₀ (omega (arith, rows-count, l .room))
 
-  -- a command that is no change of the code
-  pub listed-pass : (d : Cursor) (r : Tells) → Read s i c d r → gives c t (d .line) r ≡ [] → Listed s i c₀ t₀ table d n (later t r)
-  listed-pass d r h g =
+  -- commands that are no changes of the code
+  pub listed-passes : (d : Cursor) (u : Since) → Passes s i c t d u → Listed s i c₀ t₀ table d n u
+  listed-passes d u p =
       record {
         made = l .made;
-        whole = l .whole ∙ ap (λ (x : List Entry). l .made ++ x) (ahead-step s c d (h .command) (h .next) i t r (h .tells) ∙ rw g);
+        whole = l .whole ∙ ap (λ (x : List Entry). l .made ++ x) (p .same);
         count = l .count;
         room = l .room;
         stored = l .stored;
-        stops = l .stops ∙ stop-step s c d (h .command) (h .next);
-        lasts = l .lasts ∙ last-step s c d (h .command) (h .next);
+        stops = l .stops ∙ p .stops;
+        lasts = l .lasts ∙ p .last;
       }
 
   -- a change of the code

@@ -1,6 +1,7 @@
 -- The listing of a code: every change of it among the commands read from a cursor, up to the first refusal or the end, in file order,
 -- each with the last timestamp read since the start.
-use Prim.Native.Nat.{ℕ, _*_, _/_}
+use Prim.Native.Nat.{ℕ, _*_, _/_, _≤_, _<_}
+use mathlib.Core.Path.{_≡_}
 use mathlib.Core.Bool.{cond}
 use mathlib.Core.List.{List, [], _∷_, _++_, map}
 use lib.Dec.{eqb, leb}
@@ -12,7 +13,8 @@ use Rattle.idcode.specs.declared.IdCode.{IdCode}
 use Rattle.parser.specs.All.{Commands, command, stop, finish, commands}
 use Rattle.parser.specs.declared.Next.{Next}
 use Rattle.text.specs.declared.Text.{Text}
-use Rattle.token.specs.Read.{skipped}
+use Rattle.brief.specs.Brief.{Reads}
+use Rattle.token.specs.Read.{skipped, Valid}
 use Rattle.token.specs.declared.Cursor.{Cursor}
 use Rattle.listing.specs.Rows.{wordsOf}
 use Rattle.listing.specs.declared.Ended.{Ended}
@@ -131,3 +133,18 @@ answerOf o = record { cursor = o .cursor; count = length (o .rows); ended = o .e
 -- the table then: the rows' words, and the rest as it was
 abbrev pub filled : List Change → List ℕ → List ℕ
 filled rs table = wordsOf rs ++ drop (6 * length rs) table
+
+-- ---- a run over commands that are no changes of the code
+-- what is listed from c on, where t was the last time, is what is listed from d on, where u is it
+pub record Passes (s : List ℕ) (i : IdCode) (c : Cursor) (t : Since) (d : Cursor) (u : Since) : Type 0 where
+  pub same : changes s i c t (commands s c) ≡ changes s i d u (commands s d)
+  pub stops : stopOf (commands s c) ≡ stopOf (commands s d)
+  pub last : lastOf (commands s c) ≡ lastOf (commands s d)
+  pub valid : Valid s d
+  pub past : c .place ≤ d .place
+
+-- u is the last time: that of the timestamp that stands at `at`, or t, where `at` is the end
+abbrev pub Held : List ℕ → Since → ℕ → Since → Type 0
+Held s t at u =
+    (length s ≤ at → u ≡ t)
+    × (at < length s → (v : ℕ) × (e : ℕ) × Reads s at e (Command.Timestamp (record { 0 = v })) × (u ≡ Since.Time (record { 0 = v })))

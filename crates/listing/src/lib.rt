@@ -4,6 +4,7 @@ mod width;
 
 use brief::Brief;
 use command::Command;
+use command::Open;
 use command::Refusal;
 use command::Time;
 use idcode::IdCode;
@@ -12,9 +13,11 @@ use text::Text;
 use token::Cursor;
 ghost use mathlib.Core.Path.{_≡_};
 ghost use lib.ListN.{length};
-ghost use Prim.Native.Nat.{_≤_};
-ghost use Rattle.listing.specs.Listing.{listOf, answerOf, filled, change, told, ofCode, seen, behind, first as firstOf};
-ghost use Rattle.brief.specs.Brief.{Tells};
+ghost use Prim.Native.Nat.{ℕ, _+_, _≤_, _<_};
+ghost use Rattle.listing.specs.Listing.{listOf, answerOf, filled, change, told, ofCode, seen, behind, first as firstOf, Passes, Held};
+ghost use Rattle.brief.specs.Brief.{Tells, Reads};
+ghost use Rattle.command.specs.declared.Command.{Command};
+ghost use Rattle.listing.specs.declared.rows.Since.{Since};
 ghost use Rattle.parser.specs.Next.{nextFrom};
 ghost use Rattle.token.specs.Read.{Valid};
 pub use rows::Change;
@@ -50,6 +53,9 @@ pub fn list(input: &[u8], c: Cursor, code: IdCode, rows: &mut [u64]) -> ListAnsw
     let mut n: usize = 0;
     let mut since = Since::None;
     loop {
+        let ran = run(input, cur, since, code);
+        cur = ran.cursor;
+        since = ran.since;
         match look_quick(input, cur, code) {
             Look::Time(d, t) => {
                 since = Since::Time(t);
@@ -73,6 +79,91 @@ pub fn list(input: &[u8], c: Cursor, code: IdCode, rows: &mut [u64]) -> ListAnsw
                 return answer(d, n, Ended::Whole);
             }
         }
+    }
+}
+
+// Where a run stands, and the last time then.
+struct Stand {
+    cursor: Cursor,
+    since: Since,
+}
+
+// Passes the most usual commands that are no changes of the code. Of times only the place of the last is kept.
+fn run(input: &[u8], c: Cursor, before: Since, code: IdCode) -> Stand
+    requires { ⌜ Valid (now input) c ⌝ }
+    ensures { λ r. ⌜ Passes (now (input .entry)) code c before (r .cursor) (r .since) ⌝ }
+{
+    let most = brief::most(input.len(), c.place, input.len());
+    let mut cur = c;
+    let mut last = input.len();
+    let mut n: usize = 0;
+    while n < most {
+        let at = cur.place;
+        match brief::near(input, at) {
+            Brief::Time(_, end) => {
+                last = at;
+                cur = token::word_read(cur, end, input[end]);
+            }
+            Brief::Scalar(i, end) => {
+                if i == code.0 {
+                    return so_far(input, cur, last, before);
+                }
+                cur = token::word_read(cur, end, input[end]);
+            }
+            _ => {
+                return so_far(input, cur, last, before);
+            }
+        }
+        n += 1;
+    }
+    so_far(input, cur, last, before)
+}
+
+// The run whose last time stands at `last`; at the end of the input where it passed none.
+fn so_far(input: &[u8], cursor: Cursor, last: usize, before: Since) -> Stand
+    requires { ⌜ (length (now input) ≤ 4294967295) × (last < length (now input) → last + 34 ≤ length (now input)) ⌝ }
+    ensures { λ r. ⌜ (r .cursor ≡ cursor) × ((u : Since) → Held (now (input .entry)) before last u → r .since ≡ u) ⌝ }
+{
+    if input.len() <= last {
+        return Stand {
+            cursor,
+            since: before,
+        };
+    }
+    Stand {
+        cursor,
+        since: time_at(input, last),
+    }
+}
+
+// The timestamp that stands at a place.
+fn time_at(input: &[u8], at: usize) -> Since
+    requires { ⌜ (length (now input) ≤ 4294967295) × (at + 34 ≤ length (now input)) ⌝ }
+    ensures { λ r. ⌜ ((v e : ℕ) → Reads (now (input .entry)) at e (Command.Timestamp (record { 0 = v })) → r ≡ Since.Time (record { 0 = v })) ⌝ }
+{
+    match brief::near(input, at) {
+        Brief::Time(t, _) => Since::Time(Time(t)),
+        _ => time_read(input, at),
+    }
+}
+
+// The same by the plain way.
+fn time_read(input: &[u8], at: usize) -> Since
+    requires { ⌜ (length (now input) ≤ 4294967295) × (at ≤ length (now input)) ⌝ }
+    ensures { λ r. ⌜ ((v e : ℕ) → Reads (now (input .entry)) at e (Command.Timestamp (record { 0 = v })) → r ≡ Since.Time (record { 0 = v })) ⌝ }
+{
+    let c = Cursor {
+        place: at,
+        line: 1,
+        pending: false,
+        sim: Open::None,
+    };
+    match parser::next_command(input, c) {
+        Next::Command(k, _) => match k {
+            Command::Timestamp(t) => Since::Time(t),
+            _ => Since::None,
+        },
+        _ => Since::None,
     }
 }
 

@@ -1,14 +1,15 @@
 -- Laws of records: nine words each, stored word by word, and one record stored behind the others.
 use Prim.Native.Nat.{ℕ, suc, _+_, _*_, _≤_, _<_}
 use mathlib.Core.Path.{_≡_, refl, sym, ap, _∙_}
-use mathlib.Core.List.{List, [], _∷_, _++_, append-assoc}
+use mathlib.Core.List.{List, [], _∷_, _++_, append-assoc, append-nil}
+use native.Mathlib.Nat.{add-zero}
 use native.Mathlib.Omega.{arith}
-use lib.ListN.{length, set, take, drop, length-append, length-drop}
+use lib.ListN.{length, set, take, drop, length-append, length-take, length-drop}
 use lib.Seq.{sets, lt-length-sets, sets-eq, take-at, drop-append-add, drop-drop}
 use Rattle.command.specs.declared.Command.{Command}
 use Rattle.header.proofs.Words.{three}
-use Rattle.records.specs.Records.{recordWords, wordsOf, put}
-use Rattle.records.specs.Read.{filled}
+use Rattle.records.specs.Records.{recordWords, wordsOf, putAt, put}
+use Rattle.records.specs.Read.{filled, puts}
 
 pub nine : (k : Command) → length (recordWords k) ≡ 9
 nine (Command.Comment t) = refl
@@ -38,13 +39,10 @@ words-join [] y = refl
 words-join (k ∷ x) y =
     ap (λ (l : List ℕ). recordWords k ++ l) (words-join x y) ∙ sym (append-assoc (recordWords k) (wordsOf x) (wordsOf y))
 
-pub filled-length : (ks : List Command) (t : List ℕ) → 9 * length ks ≤ length t → length (filled ks t) ≡ length t
-filled-length ks t h = omega (arith, length-append (wordsOf ks) (drop (9 * length ks) t), all-length ks, length-drop (9 * length ks) t)
-
 -- the record behind those that are there
-pub put-next : (ks : List Command) (k : Command) (t : List ℕ) (n : ℕ) → length ks ≡ n
+put-next : (ks : List Command) (k : Command) (t : List ℕ) (n : ℕ) → length ks ≡ n
     → put (filled ks t) n (recordWords k) ≡ filled (ks ++ (k ∷ [])) t
-unfolding put wordsOf
+unfolding putAt wordsOf
 put-next ks k t n e =
     let W : List ℕ = wordsOf ks in
     let w : List ℕ = recordWords k in
@@ -58,25 +56,52 @@ put-next ks k t n e =
     (ap (λ (x : List ℕ). W ++ x) (sym (append-assoc w [] (drop (9 * length (ks ++ (k ∷ []))) t)))
     ∙ sym (append-assoc W (w ++ []) (drop (9 * length (ks ++ (k ∷ []))) t)))
 
+-- ---- the records of some commands
+put-length : (t : List ℕ) (n : ℕ) (k : Command) → 9 * n + 9 ≤ length t → length (put t n (recordWords k)) ≡ length t
+unfolding putAt
+put-length t n k h = simp (length-append, length-take, length-drop) (omega (arith, nine k))
+
+pub puts-length : (ks : List Command) (t : List ℕ) (n : ℕ) → 9 * (n + length ks) ≤ length t → length (puts t n ks) ≡ length t
+puts-length [] t n h = refl
+puts-length (k ∷ ks) t n h =
+    let e : length (put t n (recordWords k)) ≡ length t = put-length t n k (omega arith) in
+    puts-length ks (put t n (recordWords k)) (n + 1) (omega arith) ∙ e
+
+pub puts-join : (x y : List Command) (t : List ℕ) (n : ℕ) → puts t n (x ++ y) ≡ puts (puts t n x) (n + length x) y
+puts-join [] y t n = rw (add-zero n)
+puts-join (k ∷ x) y t n =
+    let e : n + 1 + length x ≡ n + length (k ∷ x) = omega arith in
+    puts-join x y (put t n (recordWords k)) (n + 1) ∙ rw e
+
+puts-next : (x y : List Command) (t : List ℕ) → puts (filled x t) (length x) y ≡ filled (x ++ y) t
+puts-next x [] t = rw (append-nil x)
+puts-next x (k ∷ y) t =
+    let e : length x + 1 ≡ length (x ++ (k ∷ [])) = omega (arith, length-append x (k ∷ [])) in
+    rw (put-next x k t (length x) refl, e, ← append-assoc x (k ∷ []) y) (puts-next (x ++ (k ∷ [])) y t)
+
+pub puts-filled : (ks : List Command) (t : List ℕ) → puts t 0 ks ≡ filled ks t
+unfolding wordsOf
+puts-filled ks t = puts-next [] ks t
+
 -- words stored one by one, from i + j on
-abbrev pub puts : List ℕ → (i j : ℕ) → List ℕ → List ℕ
-puts m i j [] = m
-puts m i j (a ∷ w) = puts (set m (i + j) a) i (suc j) w
+abbrev written : List ℕ → (i j : ℕ) → List ℕ → List ℕ
+written m i j [] = m
+written m i j (a ∷ w) = written (set m (i + j) a) i (suc j) w
 
-puts-are : (m : List ℕ) (i j : ℕ) (w : List ℕ) → puts m i j w ≡ sets m (i + j) w
-puts-are m i j [] = refl
-puts-are m i j (a ∷ w) = let e : i + suc j ≡ suc (i + j) = omega arith in puts-are (set m (i + j) a) i (suc j) w ∙ rw e
+written-are : (m : List ℕ) (i j : ℕ) (w : List ℕ) → written m i j w ≡ sets m (i + j) w
+written-are m i j [] = refl
+written-are m i j (a ∷ w) = let e : i + suc j ≡ suc (i + j) = omega arith in written-are (set m (i + j) a) i (suc j) w ∙ rw e
 
-module _ (m : List ℕ) (n : ℕ) (h : 9 * n + 9 ≤ length m) (k : ℕ) (w : List ℕ) where
-  begun : puts (set m (9 * n) k) (9 * n) 1 w ≡ sets m (9 * n) (k ∷ w)
-  begun = let e : 9 * n + 1 ≡ suc (9 * n) = omega arith in puts-are (set m (9 * n) k) (9 * n) 1 w ∙ rw e
+module _ (m : List ℕ) (at : ℕ) (h : at + 9 ≤ length m) (k : ℕ) (w : List ℕ) where
+  begun : written (set m at k) at 1 w ≡ sets m at (k ∷ w)
+  begun = let e : at + 1 ≡ suc at = omega arith in written-are (set m at k) at 1 w ∙ rw e
 
   -- there is room for the words behind them
-  pub room : (j : ℕ) → j < 9 → 9 * n + j < length (puts (set m (9 * n) k) (9 * n) 1 w)
-  room j l = rw begun (lt-length-sets m (9 * n) (k ∷ w) (omega arith))
+  pub room : (j : ℕ) → j < 9 → at + j < length (written (set m at k) at 1 w)
+  room j l = rw begun (lt-length-sets m at (k ∷ w) (omega arith))
 
-  pub stored : length w ≡ 8 → puts (set m (9 * n) k) (9 * n) 1 w ≡ put m n (k ∷ w)
-  unfolding put
+  pub stored : length w ≡ 8 → written (set m at k) at 1 w ≡ putAt m at (k ∷ w)
+  unfolding putAt
   stored e =
-      let l : 9 * n + length (k ∷ w) ≡ 9 * n + 9 = omega arith in
-      begun ∙ sets-eq (k ∷ w) m (9 * n) (omega arith) ∙ rw l (append-assoc (take (9 * n) m) (k ∷ w) (drop (9 * n + 9) m))
+      let l : at + length (k ∷ w) ≡ at + 9 = omega arith in
+      begun ∙ sets-eq (k ∷ w) m at (omega arith) ∙ rw l (append-assoc (take at m) (k ∷ w) (drop (at + 9) m))

@@ -1,5 +1,6 @@
 -- Reading into records: the commands from a cursor, in order, as many as have room.
-use Prim.Native.Nat.{ℕ, zero, suc, _*_, _/_, _<_}
+use Prim.Native.Nat.{ℕ, zero, suc, _+_, _*_, _/_, _≤_, _<_}
+use mathlib.Core.Path.{_≡_}
 use mathlib.Core.Bool.{cond}
 use mathlib.Core.List.{List, [], _∷_, _++_}
 use lib.ListN.{length, drop, getD}
@@ -9,6 +10,7 @@ use Rattle.parser.specs.All.{Commands, command, stop, finish, commands}
 use Rattle.parser.specs.Next.{isGood}
 use Rattle.parser.specs.declared.Next.{Next}
 use Rattle.token.specs.Flat.{wordRead}
+use Rattle.token.specs.Read.{Valid}
 use Rattle.token.specs.declared.Cursor.{Cursor}
 use Rattle.records.specs.Records.{recordWords, wordsOf, put}
 use Rattle.records.specs.declared.Ended.{Ended}
@@ -67,3 +69,23 @@ abbrev pub tableOf : Next → List ℕ → ℕ → List ℕ
 tableOf (Next.Command k d) table n = put table n (recordWords k)
 tableOf (Next.Refused e line d) table n = table
 tableOf (Next.Done d) table n = table
+
+-- ---- a run of steps
+-- the commands ks, then o
+abbrev pub joined : List Command → Outcome → Outcome
+joined ks o = record { commands = ks ++ o .commands; cursor = o .cursor; ended = o .ended }
+
+-- the records of the commands ks from n on
+abbrev pub puts : List ℕ → ℕ → List Command → List ℕ
+puts table n [] = table
+puts table n (k ∷ ks) = puts (put table n (recordWords k)) (n + 1) ks
+
+-- from c and n records in t reading came to d and m records in u
+pub record Ran (s : List ℕ) (c : Cursor) (n : ℕ) (t : List ℕ) (d : Cursor) (m : ℕ) (u : List ℕ) : Type 0 where
+  pub made : List Command
+  pub ahead : (r : ℕ) → taken (length made + r) c (commands s c) ≡ joined made (taken r d (commands s d))
+  pub count : m ≡ n + length made
+  pub room : 9 * m ≤ length t
+  pub stored : u ≡ puts t n made
+  pub valid : Valid s d
+  pub past : c .place ≤ d .place

@@ -78,6 +78,10 @@ unfoldable pub wordsOf : List Command → List ℕ
 wordsOf [] = []
 wordsOf (k ∷ ks) = recordWords k ++ wordsOf ks
 
+-- the table with the nine words w from `at` on
+unfoldable pub putAt : List ℕ → ℕ → List ℕ → List ℕ
+putAt table at w = take at table ++ (w ++ drop (at + 9) table)
+
 -- the table with the words w as record n
-unfoldable pub put : List ℕ → ℕ → List ℕ → List ℕ
-put table n w = take (9 * n) table ++ (w ++ drop (9 * n + 9) table)
+abbrev pub put : List ℕ → ℕ → List ℕ → List ℕ
+put table n w = putAt table (9 * n) w

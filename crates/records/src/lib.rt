@@ -23,9 +23,9 @@ ghost use Rattle.brief.specs.Brief.{Tells};
 ghost use Rattle.command.specs.declared.Command.{Command};
 ghost use Rattle.parser.specs.Next.{nextFrom};
 ghost use Rattle.token.specs.Read.{Valid};
-ghost use Rattle.records.specs.Records.{recordWords, recordAt, commandOf, varCommand, made as madeOf, put as putWords};
+ghost use Rattle.records.specs.Records.{recordWords, recordAt, commandOf, varCommand, made as madeOf, put as putWords, putAt};
 ghost use Rattle.records.specs.Types.{numberMost};
-ghost use Rattle.records.specs.Read.{readOf, answerOf, filled, stepOf, behind, Inside, tableOf};
+ghost use Rattle.records.specs.Read.{readOf, answerOf, filled, stepOf, behind, Inside, tableOf, Ran};
 
 // A record by value; none where there is none, or where the words are no command.
 pub enum Recorded {
@@ -61,6 +61,9 @@ pub fn read(input: &[u8], c: Cursor, records: &mut [u64]) -> ReadAnswer
     let mut cur = c;
     let mut n: usize = 0;
     loop {
+        let ran = run(input, cur, records, n);
+        cur = ran.cursor;
+        n = ran.count;
         if cap <= n {
             return answer(cur, n, Ended::Full);
         }
@@ -88,6 +91,48 @@ fn answer(cursor: Cursor, count: usize, ended: Ended) -> ReadAnswer
         count,
         ended,
     }
+}
+
+// Where a run stands, and the count of records.
+struct Reached {
+    cursor: Cursor,
+    count: usize,
+}
+
+// The most usual commands that stand next, into their records from `n` on.
+fn run(input: &[u8], c: Cursor, records: &mut [u64], n: usize) -> Reached
+    requires { ⌜ Valid (now input) c × (9 * n ≤ length (now records)) ⌝ }
+    ensures { λ r. ⌜ Ran (now (input .entry)) c n (now (records .entry)) (r .cursor) (r .count) (now (records .exit)) ⌝ }
+{
+    let room = records.len() / WORDS - n;
+    let stop = WORDS * (n + brief::most(input.len(), c.place, room));
+    let mut cur = c;
+    let mut at = WORDS * n;
+    while at < stop {
+        let place = cur.place;
+        match brief::near(input, place) {
+            Brief::Time(t, end) => {
+                put_at(records, at, 9, 0, t, 0, 0, 0, 0, 0, 0);
+                cur = token::word_read(cur, end, input[end]);
+            }
+            Brief::Scalar(i, end) => {
+                let v = types::value_at(input[place]);
+                put_at(records, at, 10, v, 0, i, 0, 0, 0, 0, 0);
+                cur = token::word_read(cur, end, input[end]);
+            }
+            _ => {
+                return so_far(cur, at / WORDS);
+            }
+        }
+        at += WORDS;
+    }
+    so_far(cur, at / WORDS)
+}
+
+fn so_far(cursor: Cursor, count: usize) -> Reached
+    ensures { λ r. ⌜ r ≡ record { cursor = cursor; count = count } ⌝ }
+{
+    Reached { cursor, count }
 }
 
 // One command read into its record, or how reading ends.
@@ -210,7 +255,26 @@ fn put(
     requires { ⌜ 9 * n + 9 ≤ length (now records) ⌝ }
     ensures { λ _. ⌜ now (records .exit) ≡ putWords (now (records .entry)) n (k ∷ t ∷ v ∷ c ∷ s ∷ l ∷ f ∷ a ∷ b ∷ []) ⌝ }
 {
-    let at = WORDS * n;
+    put_at(records, WORDS * n, k, t, v, c, s, l, f, a, b);
+}
+
+// The same, of the record whose first word stands at `at`.
+fn put_at(
+    records: &mut [u64],
+    at: usize,
+    k: u64,
+    t: u64,
+    v: u64,
+    c: u64,
+    s: u64,
+    l: u64,
+    f: u64,
+    a: u64,
+    b: u64,
+)
+    requires { ⌜ at + 9 ≤ length (now records) ⌝ }
+    ensures { λ _. ⌜ now (records .exit) ≡ putAt (now (records .entry)) at (k ∷ t ∷ v ∷ c ∷ s ∷ l ∷ f ∷ a ∷ b ∷ []) ⌝ }
+{
     records[at] = k;
     records[at + 1] = t;
     records[at + 2] = v;

@@ -8,3 +8,4 @@ pub mod WellFormed
 pub mod Blank
 pub mod Trimming
 pub mod Has
+pub mod Printable

@@ -5,10 +5,12 @@ pub mod utf8;
 pub mod white_space;
 
 ghost use mathlib.Core.Path.{_≡_};
+ghost use mathlib.Core.Bool.{true};
 ghost use mathlib.Core.List.{[], _∷_, _++_};
 ghost use lib.ListN.{length, take, drop};
-ghost use Prim.Native.Nat.{_≤_};
+ghost use Prim.Native.Nat.{_+_, _≤_, _<_};
 ghost use Rattle.text.specs.Bytes.{isBlank, equal, starts, endMark};
+ghost use Rattle.text.specs.Plain.{Plain};
 ghost use Rattle.text.specs.Texts.{isWithin, part as partOf, firstEnd, spelled, textIn, putAnswer, putBytes};
 
 // A text is a place in a lent buffer.
@@ -208,4 +210,22 @@ pub fn put_text(s: &[u8], out: &mut [u8]) -> Placed
         i += 1;
     }
     Placed::Count(i)
+}
+
+// 1 for a byte of printable ASCII, 0 for another.
+fn plain(b: u8) -> u8
+    ensures { λ r. ⌜ (r ≤ 1) × (r ≡ 1 → (32 < b) × (b < 127)) ⌝ }
+{
+    if 32 < b && b < 127 { 1 } else { 0 }
+}
+
+// Whether the eight bytes from `at` on are printable ASCII. All are counted, so that the compiler looks at them at once. A part of
+// loops over long texts.
+pub fn plain_eight(s: &[u8], at: usize) -> bool
+    requires { ⌜ at + 8 ≤ length (now s) ⌝ }
+    ensures { λ r. ⌜ (r ≡ true → Plain (now (s .entry)) at (at + 8)) ⌝ }
+{
+    let a = plain(s[at]) + plain(s[at + 1]) + plain(s[at + 2]) + plain(s[at + 3]);
+    let b = plain(s[at + 4]) + plain(s[at + 5]) + plain(s[at + 6]) + plain(s[at + 7]);
+    a + b == 8
 }

@@ -1,5 +1,5 @@
 -- What 25 and 22 ask of texts.
-use Prim.Native.Nat.{ℕ, _+_, _≤_, _<_}
+use Prim.Native.Nat.{ℕ, zero, suc, _+_, _≤_, _<_}
 use mathlib.Core.Path.{_≡_, refl, sym, ap, ap₂, _∙_}
 use mathlib.Core.Bool.{true, false, not, _&&_, and-true, and-false}
 use mathlib.Core.List.{List, [], _∷_, map}
@@ -10,6 +10,7 @@ use lib.ListN.{length, drop, getD, drop-of-length-le}
 use Rattle.idcode.specs.declared.IdCode.{IdCode}
 use Rattle.number.specs.Real.{isReal}
 use Rattle.text.specs.Bytes.{bytes, isBlank, has, holds, endMark, noBlank, isToken}
+use Rattle.text.specs.Plain.{Plain}
 use Rattle.text.specs.Texts.{isWithin, firstEnd}
 use Rattle.text.specs.Utf8.{validUtf8}
 use Rattle.text.specs.WhiteSpace.{trimmed}
@@ -75,24 +76,32 @@ module _ (s : List ℕ) (i : ℕ) where
 abbrev Clean : List ℕ → Type 0
 Clean l = (noBlank l ≡ true) × (validUtf8 l ≡ true)
 
--- from the place at to the place i: what is left decides
-abbrev pub Plain : List ℕ → ℕ → ℕ → Type 0
-Plain s at i = (i ≤ length s) × (Clean (drop i s) → Clean (drop at s))
+-- the bytes up to the place i: what is left decides
+abbrev pub Passed : List ℕ → ℕ → Type 0
+Passed s i = (i ≤ length s) × (Clean (drop i s) → Clean s)
 
-module _ (s : List ℕ) (at i : ℕ) (p : Plain s at i) where
-  pub plain-more : (j : ℕ) → i + 1 ≡ j → i < length s → (32 < getD s i 0) × (getD s i 0 < 128) → Plain s at j
-  plain-more j e h b =
-      let more : Plain s at (i + 1) = (
-        omega arith,
-        λ q. p .1 (
-          sym (blank-more s i h (solid (getD s i 0) (b .0))) ∙ q .0,
-          rw (drop-step s i h) (ascii-first (getD s i 0) (drop (i + 1) s) (b .1) ∙ q .1),
-        ),
-      ) in
-      rw e at more
+module _ (s : List ℕ) (i : ℕ) where
+  pub passed-more : Passed s i → i < length s → (32 < getD s i 0) × (getD s i 0 < 128) → Passed s (i + 1)
+  passed-more p h b = (
+    omega arith,
+    λ q. p .1 (
+      sym (blank-more s i h (solid (getD s i 0) (b .0))) ∙ q .0,
+      rw (drop-step s i h) (ascii-first (getD s i 0) (drop (i + 1) s) (b .1) ∙ q .1),
+    ),
+  )
 
-  pub plain-done : length s ≤ i → Clean (drop at s)
-  plain-done h = p .1 (blank-done s i h, ap validUtf8 (drop-of-length-le s h) ∙ empty-valid)
+  pub passed-all : Passed s i → length s ≤ i → Clean s
+  passed-all p h = p .1 (blank-done s i h, ap validUtf8 (drop-of-length-le s h) ∙ empty-valid)
+
+passed-plain : (s : List ℕ) (i : ℕ) → i ≤ length s → Plain s 0 i → Passed s i
+passed-plain s zero h p = (omega arith, λ q. q)
+passed-plain s (suc i) h p =
+    let b = p i (omega arith) (omega arith) in
+    let next : i + 1 ≡ suc i = omega arith in
+    rw next at (passed-more s i (passed-plain s i (omega arith) (λ j l g. p j l (omega arith))) (omega arith) (b .0, omega (arith, b .1)))
+
+pub plain-clean : (s : List ℕ) → Plain s 0 (length s) → Clean s
+plain-clean s p = passed-all s (length s) (passed-plain s (length s) (omega arith) p) (omega arith)
 
 -- ---- names
 pub name-none : (s : List ℕ) → length s ≡ 0 → isName s ≡ false

@@ -3,7 +3,7 @@ use text::Found;
 use text::Text;
 ghost use mathlib.Core.Path.{_≡_};
 ghost use Prim.Native.Nat.{_≤_, _<_};
-ghost use lib.ListN.{length, drop};
+ghost use lib.ListN.{length};
 ghost use mathlib.Core.Bool.{true};
 ghost use Rattle.text.specs.Bytes.{noBlank};
 ghost use Rattle.text.specs.Utf8.{validUtf8};
@@ -53,26 +53,29 @@ pub fn is_name(s: &[u8]) -> bool
     text::utf8::valid(s)
 }
 
-// Whether each byte is printable ASCII, as in nearly all names: looked at four a turn.
+// Whether each byte is printable ASCII, as in nearly all names: looked at eight a turn, some of the last eight twice.
 fn is_plain(s: &[u8]) -> bool
     ensures { λ r. ⌜ (r ≡ true → (noBlank (now (s .entry)) ≡ true) × (validUtf8 (now (s .entry)) ≡ true)) ⌝ }
 {
+    if s.len() < 8 {
+        return is_plain_few(s);
+    }
+    let last = s.len() - 8;
     let mut i = 0;
-    while 4 <= s.len() - i {
-        if !plain(s[i]) || !plain(s[i + 1]) || !plain(s[i + 2]) || !plain(s[i + 3]) {
+    while i < last {
+        if !text::plain_eight(s, i) {
             return false;
         }
-        i += 4;
+        i += 8;
     }
-    is_plain_from(s, i)
+    text::plain_eight(s, last)
 }
 
-// The same of the bytes from `at` on, one a turn.
-fn is_plain_from(s: &[u8], at: usize) -> bool
-    requires { ⌜ at ≤ length (now s) ⌝ }
-    ensures { λ r. ⌜ (r ≡ true → (noBlank (drop at (now (s .entry))) ≡ true) × (validUtf8 (drop at (now (s .entry))) ≡ true)) ⌝ }
+// The same one byte a turn.
+fn is_plain_few(s: &[u8]) -> bool
+    ensures { λ r. ⌜ (r ≡ true → (noBlank (now (s .entry)) ≡ true) × (validUtf8 (now (s .entry)) ≡ true)) ⌝ }
 {
-    let mut i = at;
+    let mut i = 0;
     while i < s.len() {
         if !plain(s[i]) {
             return false;

@@ -1,6 +1,7 @@
 -- `brief::time` meets its contract. Assumes nothing.
 use Prim.Native.Nat.{_+_}
 use denote.Ref.{now}
+use native.Mathlib.Omega.{arith}
 use Rattle.parser.specs.Quick.{QuickNumber}
 use Rattle.parser.specs.declared.quick.Quick.the-variants.{Hit}
 use Rattle.brief.proofs.Looks.{reads-time}
@@ -24,10 +25,12 @@ enum-told : tie.Need-enum-told
 enum-told c = search needs
 
 returns : tie.Need-returns
-returns c = let h = hit (c .before) in reads-time _ _ _ (h .0) _ (c .before .before .before .before .before .pre .1 .1) (h .1)
+returns c =
+    let h = hit (c .before) in
+    (reads-time _ _ _ (h .0) _ (c .before .before .before .before .before .pre .1 .1) (h .1), omega (arith, h .0 .few))
 
 returns-2 : tie.Need-returns-2
-returns-2 c = search needs
+returns-2 c = (tt, tt)
 
 pub time-spec : {M : Type 1} → statement M
 time-spec =

@@ -1,67 +1,73 @@
 -- `define::put_type` meets its contract. Assumes nothing.
 use denote.Ref.{now}
+use denote.Enum.Declared.{tagOf}
 use Prim.Native.Nat.{ℕ}
 use mathlib.Core.Path.{_≡_, refl}
-use mathlib.Core.List.{List}
+use mathlib.Core.Bool.{Bool, true, false}
+use mathlib.Core.List.{List, [], _∷_, _++_}
+use mathlib.Core.Logic.{⊎-elim}
 use borrow.Author.Needs.{needs}
+use borrow.Enum.Known.{lives-at}
+use types.Run.{OneOf}
 use Rattle.text.specs.Bytes.{bytes}
 use Rattle.scope.specs.Types.{varName}
+use Rattle.scope.specs.declared.VarType.{VarType}
+use Rattle.scope.proofs.VarType.{enum, the-type}
 use Rattle.lay.proofs.Storing.{row-text}
+use Rattle.define.specs.Define.{usual}
 use Rattle.define.proofs.Putting.{Due, due, fits, more}
 use Rattle.define.proofs.put_type.Statement.{statement}
 use Rattle.define.proofs.put_type.Tie as tie
 
--- `wire`
-put-four-requires : tie.Need-put-four-requires
-put-four-requires c κs = rw (c .before .enum-told .given .1) at (c .before .before .before .before .pre)
+-- `wire` and `reg`
+is-usual : (t : VarType) {r : Bool} → OneOf (15 ∷ 4 ∷ []) (tagOf the-type t) → (t ≡ VarType.Wire → r ≡ true) × (t ≡ VarType.Reg → r ≡ false)
+    → usual r ≡ bytes (varName t) ++ bytes " "
+is-usual t o e =
+    ⊎-elim (λ h. let q : t ≡ VarType.Wire = lives-at enum t 15 h .1 in rw (e .0 q, q))
+    (λ h. let q : t ≡ VarType.Reg = lives-at enum t 4 h .1 in rw (e .1 q, q))
+    o
+
+named : (c : tie.After-is-wire) → usual (c .is-wire .result) ≡ bytes (varName (c .before .before .before .before .args .t)) ++ bytes " "
+named c = is-usual (c .before .before .before .before .args .t) (c .before .before .match .keys1) (c .is-wire .ensures)
+
+put-usual-requires : tie.Need-put-usual-requires
+put-usual-requires c κs = rw (named c) (c .before .before .before .before .pre)
 
 returns : tie.Need-returns
-returns c = rw (c .before .before .before .before .enum-told .given .1) (c .before .before .put-four .ensures)
+returns c = rw (named (c .before .before .before)) at (c .before .before .put-usual .ensures)
 
--- `reg`, and what is still to be put of it
-abbrev Reg : tie.After-enum-told2 → List ℕ → ℕ → List ℕ → Type 0
-Reg c = let x = c .before .before .before .args in Due (now (x .out)) (x .at) (bytes "reg")
+-- any other, and what is still to be put of it
+abbrev name : tie.Start → List ℕ
+name s = bytes (varName (s .args .t))
 
-at-r : (c : tie.After-enum-told2) → let x = c .before .before .before .args in Reg c (bytes "reg") (x .at) (now (x .out))
-at-r c = due _ _ _ refl (rw (c .enum-told2 .given .1) at (c .before .before .before .pre))
+abbrev s1 : tie.After-front → tie.Start
+s1 c = c .before .before .before .before .before .before .before
 
-at-e : (c : tie.After-put-byte) → Reg (c .before .before) (bytes "eg") (c .put-byte .result) (c .put-byte .last .0)
-at-e c = more (bytes "r") (bytes "eg") (at-r (c .before .before)) (c .put-byte .ensures)
+abbrev Left : tie.Start → List ℕ → ℕ → List ℕ → Type 0
+Left s = Due (now (s .args .out)) (s .args .at) (name s ++ bytes " ")
 
-at-g : (c : tie.After-put-byte2) →
-    Reg (c .before .before .before .before .before .before) (bytes "g") (c .put-byte2 .result) (c .put-byte2 .last .0)
-at-g c = more (bytes "e") (bytes "g") (at-e (c .before .before .before .before)) (c .put-byte2 .ensures)
-
-returns-2 : tie.Need-returns-2
-returns-2 c =
-    rw (c .before .before .before .before .before .before .before .before .before .before .before .before .enum-told2 .given .1)
-    (at-g (c .before .before .before .before .before .before) .done (c .before .before .put-byte3 .ensures))
-
--- any other
-kind : (c : tie.After-front) → now (c .front .result) ≡ bytes (varName (c .before .before .before .before .before .before .before .args .t))
+kind : (c : tie.After-front) → now (c .front .result) ≡ name (s1 c)
 kind c = row-text _ (c .before .before .before .before .spell .ensures) (c .front .ensures)
 
-put-requires : tie.Need-put-requires
-put-requires c κs = rw (kind c) (c .before .before .before .before .before .before .before .pre)
+whole : (s : tie.Start) → Left s (name s ++ bytes " ") (s .args .at) (now (s .args .out))
+whole s = due _ _ _ refl (s .pre)
 
-returns-3 : tie.Need-returns-3
-returns-3 c = rw (kind (c .before .before .before)) at (c .before .before .put .ensures)
+put-requires : tie.Need-put-requires
+put-requires c κs = rw (kind c) (fits (name (s1 c)) (bytes " ") (whole (s1 c)))
+
+space : (c : tie.After-put) → Left (s1 (c .before)) (bytes " ") (c .put .result) (c .put .last .0)
+space c = more (name (s1 (c .before))) (bytes " ") (whole (s1 (c .before))) (rw (kind (c .before)) at (c .put .ensures))
 
 pub put-type-spec : {M : Type 1} → statement M
 put-type-spec =
     tie.close
     (tie.spec
-    (λ c. search needs)
-    put-four-requires
-    (λ c. search needs)
-    (λ c κs. fits (bytes "r") (bytes "eg") (at-r (c .before)))
-    (λ c κs. fits (bytes "e") (bytes "g") (at-e (c .before .before .before)))
-    (λ c κs. at-g (c .before .before .before) .room)
+    (λ c κs. search needs)
+    put-usual-requires
     (λ c κs. search needs) (λ c. search needs) (λ c κs. search needs)
     put-requires
+    (λ c κs. space (c .before .before .before) .room)
     (λ c. search needs)
     returns
     (λ c. search needs)
-    returns-2
-    (λ c. search needs)
-    returns-3)
+    (λ c. space (c .before .before .before .before .before .before) .done (c .before .before .put-byte .ensures)))

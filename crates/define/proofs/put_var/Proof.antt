@@ -1,8 +1,8 @@
 -- `define::put_var` meets its contract. Assumes nothing.
 use denote.Ref.{now}
 use Prim.Native.Nat.{ℕ}
-use mathlib.Core.Path.{refl, ap, _∙_}
-use mathlib.Core.List.{List, _++_}
+use mathlib.Core.Path.{_≡_, sym, ap, _∙_}
+use mathlib.Core.List.{List, _++_, append-assoc}
 use native.Mathlib.Omega.{arith}
 use borrow.Author.Needs.{needs}
 use lib.ListN.{length}
@@ -32,8 +32,14 @@ from-id s = idText (s .args .id .0) ++ (bytes " " ++ from-name s)
 abbrev from-width : tie.Start → List ℕ
 from-width s = decimalOf (s .args .width) ++ (bytes " " ++ from-id s)
 
+abbrev kind : tie.Start → List ℕ
+kind s = bytes (varName (s .args .t)) ++ bytes " "
+
 abbrev from-type : tie.Start → List ℕ
-from-type s = bytes (varName (s .args .t)) ++ (bytes " " ++ from-width s)
+from-type s = kind s ++ from-width s
+
+parts : (s : tie.Start) → text s ≡ bytes "$var " ++ from-type s
+parts s = ap (λ (l : List ℕ). bytes "$var " ++ l) (sym (append-assoc (bytes (varName (s .args .t))) (bytes " ") (from-width s)))
 
 -- where a call left the output: what is still to be put there
 abbrev Left : tie.Start → List ℕ → ℕ → List ℕ → Type 0
@@ -43,7 +49,8 @@ abbrev s1 : tie.After-put-four → tie.Start
 s1 c = c .before .before .before .before
 
 put-1 : (c : tie.After-put-four) → Left (s1 c) (bytes " " ++ from-type (s1 c)) (c .put-four .result) (c .put-four .last .0)
-put-1 c = more (bytes "$var") _ (due (now (s1 c .args .out)) 0 (text (s1 c)) refl (omega (arith, s1 c .pre))) (c .put-four .ensures)
+put-1 c =
+    more (bytes "$var") _ (due (now (s1 c .args .out)) 0 (text (s1 c)) (parts (s1 c)) (omega (arith, s1 c .pre))) (c .put-four .ensures)
 
 abbrev s2 : tie.After-put-byte → tie.Start
 s2 c = s1 (c .before .before .before .before)
@@ -54,69 +61,63 @@ put-2 c = more (bytes " ") _ (put-1 (c .before .before .before .before)) (c .put
 abbrev s3 : tie.After-put-type → tie.Start
 s3 c = s2 (c .before .before .before .before)
 
-put-3 : (c : tie.After-put-type) → Left (s3 c) (bytes " " ++ from-width (s3 c)) (c .put-type .result) (c .put-type .last .0)
-put-3 c = more (bytes (varName (s3 c .args .t))) _ (put-2 (c .before .before .before .before)) (c .put-type .ensures)
+put-3 : (c : tie.After-put-type) → Left (s3 c) (from-width (s3 c)) (c .put-type .result) (c .put-type .last .0)
+put-3 c = more (kind (s3 c)) _ (put-2 (c .before .before .before .before)) (c .put-type .ensures)
 
-abbrev s4 : tie.After-put-byte2 → tie.Start
+abbrev s4 : tie.After-put-number → tie.Start
 s4 c = s3 (c .before .before .before .before)
 
-put-4 : (c : tie.After-put-byte2) → Left (s4 c) (from-width (s4 c)) (c .put-byte2 .result) (c .put-byte2 .last .0)
-put-4 c = more (bytes " ") _ (put-3 (c .before .before .before .before)) (c .put-byte2 .ensures)
+put-4 : (c : tie.After-put-number) → Left (s4 c) (bytes " " ++ from-id (s4 c)) (c .put-number .result) (c .put-number .last .0)
+put-4 c = more (decimalOf (s4 c .args .width)) _ (put-3 (c .before .before .before .before)) (c .put-number .ensures)
 
-abbrev s5 : tie.After-put-number → tie.Start
+abbrev s5 : tie.After-put-byte2 → tie.Start
 s5 c = s4 (c .before .before .before .before)
 
-put-5 : (c : tie.After-put-number) → Left (s5 c) (bytes " " ++ from-id (s5 c)) (c .put-number .result) (c .put-number .last .0)
-put-5 c = more (decimalOf (s5 c .args .width)) _ (put-4 (c .before .before .before .before)) (c .put-number .ensures)
+put-5 : (c : tie.After-put-byte2) → Left (s5 c) (from-id (s5 c)) (c .put-byte2 .result) (c .put-byte2 .last .0)
+put-5 c = more (bytes " ") _ (put-4 (c .before .before .before .before)) (c .put-byte2 .ensures)
 
-abbrev s6 : tie.After-put-byte3 → tie.Start
+abbrev s6 : tie.After-put-id → tie.Start
 s6 c = s5 (c .before .before .before .before)
 
-put-6 : (c : tie.After-put-byte3) → Left (s6 c) (from-id (s6 c)) (c .put-byte3 .result) (c .put-byte3 .last .0)
-put-6 c = more (bytes " ") _ (put-5 (c .before .before .before .before)) (c .put-byte3 .ensures)
+put-6 : (c : tie.After-put-id) → Left (s6 c) (bytes " " ++ from-name (s6 c)) (c .put-id .result) (c .put-id .last .0)
+put-6 c = more (idText (s6 c .args .id .0)) _ (put-5 (c .before .before .before .before)) (c .put-id .ensures)
 
-abbrev s7 : tie.After-put-id → tie.Start
+abbrev s7 : tie.After-put-byte3 → tie.Start
 s7 c = s6 (c .before .before .before .before)
 
-put-7 : (c : tie.After-put-id) → Left (s7 c) (bytes " " ++ from-name (s7 c)) (c .put-id .result) (c .put-id .last .0)
-put-7 c = more (idText (s7 c .args .id .0)) _ (put-6 (c .before .before .before .before)) (c .put-id .ensures)
+put-7 : (c : tie.After-put-byte3) → Left (s7 c) (from-name (s7 c)) (c .put-byte3 .result) (c .put-byte3 .last .0)
+put-7 c = more (bytes " ") _ (put-6 (c .before .before .before .before)) (c .put-byte3 .ensures)
 
-abbrev s8 : tie.After-put-byte4 → tie.Start
+abbrev s8 : tie.After-put → tie.Start
 s8 c = s7 (c .before .before .before .before)
 
-put-8 : (c : tie.After-put-byte4) → Left (s8 c) (from-name (s8 c)) (c .put-byte4 .result) (c .put-byte4 .last .0)
-put-8 c = more (bytes " ") _ (put-7 (c .before .before .before .before)) (c .put-byte4 .ensures)
+put-8 : (c : tie.After-put) → Left (s8 c) (from-index (s8 c)) (c .put .result) (c .put .last .0)
+put-8 c = more (now (s8 c .args .name)) _ (put-7 (c .before .before .before .before)) (c .put .ensures)
 
-abbrev s9 : tie.After-put → tie.Start
+abbrev s9 : tie.After-put-index → tie.Start
 s9 c = s8 (c .before .before .before .before)
 
-put-9 : (c : tie.After-put) → Left (s9 c) (from-index (s9 c)) (c .put .result) (c .put .last .0)
-put-9 c = more (now (s9 c .args .name)) _ (put-8 (c .before .before .before .before)) (c .put .ensures)
+put-9 : (c : tie.After-put-index) → Left (s9 c) (bytes " $end\n") (c .put-index .result) (c .put-index .last .0)
+put-9 c = more (indexed (s9 c .args .x)) _ (put-8 (c .before .before .before .before)) (c .put-index .ensures)
 
-abbrev s10 : tie.After-put-index → tie.Start
+abbrev s10 : tie.After-put-four2 → tie.Start
 s10 c = s9 (c .before .before .before .before)
 
-put-10 : (c : tie.After-put-index) → Left (s10 c) (bytes " $end\n") (c .put-index .result) (c .put-index .last .0)
-put-10 c = more (indexed (s10 c .args .x)) _ (put-9 (c .before .before .before .before)) (c .put-index .ensures)
+put-10 : (c : tie.After-put-four2) → Left (s10 c) (bytes "d\n") (c .put-four2 .result) (c .put-four2 .last .0)
+put-10 c = more (bytes " $en") _ (put-9 (c .before .before .before .before)) (c .put-four2 .ensures)
 
-abbrev s11 : tie.After-put-four2 → tie.Start
+abbrev s11 : tie.After-put-byte4 → tie.Start
 s11 c = s10 (c .before .before .before .before)
 
-put-11 : (c : tie.After-put-four2) → Left (s11 c) (bytes "d\n") (c .put-four2 .result) (c .put-four2 .last .0)
-put-11 c = more (bytes " $en") _ (put-10 (c .before .before .before .before)) (c .put-four2 .ensures)
-
-abbrev s12 : tie.After-put-byte5 → tie.Start
-s12 c = s11 (c .before .before .before .before)
-
-put-12 : (c : tie.After-put-byte5) → Left (s12 c) (bytes "\n") (c .put-byte5 .result) (c .put-byte5 .last .0)
-put-12 c = more (bytes "d") _ (put-11 (c .before .before .before .before)) (c .put-byte5 .ensures)
+put-11 : (c : tie.After-put-byte4) → Left (s11 c) (bytes "\n") (c .put-byte4 .result) (c .put-byte4 .last .0)
+put-11 c = more (bytes "d") _ (put-10 (c .before .before .before .before)) (c .put-byte4 .ensures)
 
 returns : tie.Need-returns
-returns c = put-12 (c .before .before .before .before .before .before) .done (c .before .before .put-byte6 .ensures)
+returns c = put-11 (c .before .before .before .before .before .before) .done (c .before .before .put-byte5 .ensures)
 
 same-length : tie.Need-same-length
 same-length c =
-    let s = s12 (c .before .before .before .before .before .before) in
+    let s = s11 (c .before .before .before .before .before .before) in
     ap length (returns c .1) ∙ stored-length (now (s .args .out)) 0 (text s) (omega (arith, s .pre))
 
 pub put-var-spec : {M : Type 1} → statement M
@@ -125,16 +126,15 @@ put-var-spec =
     (tie.spec
     (λ c κs. search needs)
     (λ c κs. fits (bytes " ") _ (put-1 (c .before .before .before)))
-    (λ c κs. fits (bytes (varName (s2 (c .before .before .before) .args .t))) _ (put-2 (c .before .before .before)))
-    (λ c κs. fits (bytes " ") _ (put-3 (c .before .before .before)))
-    (λ c κs. fits (decimalOf (s4 (c .before .before .before) .args .width)) _ (put-4 (c .before .before .before)))
-    (λ c κs. fits (bytes " ") _ (put-5 (c .before .before .before)))
-    (λ c κs. fits (idText (s6 (c .before .before .before) .args .id .0)) _ (put-6 (c .before .before .before)))
-    (λ c κs. fits (bytes " ") _ (put-7 (c .before .before .before)))
-    (λ c κs. fits (now (s8 (c .before .before .before) .args .name)) _ (put-8 (c .before .before .before)))
-    (λ c κs. fits (indexed (s9 (c .before .before .before) .args .x)) _ (put-9 (c .before .before .before)))
-    (λ c κs. fits (bytes " $en") _ (put-10 (c .before .before .before)))
-    (λ c κs. fits (bytes "d") _ (put-11 (c .before .before .before)))
-    (λ c κs. put-12 (c .before .before .before) .room)
+    (λ c κs. fits (kind (s2 (c .before .before .before))) _ (put-2 (c .before .before .before)))
+    (λ c κs. fits (decimalOf (s3 (c .before .before .before) .args .width)) _ (put-3 (c .before .before .before)))
+    (λ c κs. fits (bytes " ") _ (put-4 (c .before .before .before)))
+    (λ c κs. fits (idText (s5 (c .before .before .before) .args .id .0)) _ (put-5 (c .before .before .before)))
+    (λ c κs. fits (bytes " ") _ (put-6 (c .before .before .before)))
+    (λ c κs. fits (now (s7 (c .before .before .before) .args .name)) _ (put-7 (c .before .before .before)))
+    (λ c κs. fits (indexed (s8 (c .before .before .before) .args .x)) _ (put-8 (c .before .before .before)))
+    (λ c κs. fits (bytes " $en") _ (put-9 (c .before .before .before)))
+    (λ c κs. fits (bytes "d") _ (put-10 (c .before .before .before)))
+    (λ c κs. put-11 (c .before .before .before) .room)
     same-length
     returns)

@@ -3,37 +3,44 @@ use Prim.Native.Nat.{_+_, _-_, _≤_}
 use mathlib.Core.Path.{_≡_, refl, ap, _∙_}
 use native.Mathlib.Omega.{arith}
 use borrow.Author.Needs.{needs}
-use lib.ListN.{length, take, length-set}
+use lib.ListN.{length, take}
 use lib.Seq.{take-all}
 use Rattle.lay.specs.Put.{stored}
-use Rattle.lay.proofs.Storing.{stored-none, stored-step}
+use Rattle.lay.proofs.Storing.{stored-none, stored-over}
 use Rattle.lay.proofs.put.Statement.{statement}
 use Rattle.lay.proofs.put.Tie as tie
 
 abbrev Inv-loop : tie.InvT-loop
-Inv-loop out₀ at word i₀ o₀ out i o =
-    (i ≤ length word) × (o ≡ at + i) × (out ≡ stored out₀ at (take i word)) × (length out ≡ length out₀)
+Inv-loop out₀ at word last i₀ out i =
+    (i ≤ length word) × (out ≡ stored out₀ at (take i word)) × (length out ≡ length out₀)
 
 abbrev μ-loop : tie.MeasureT-loop
-μ-loop out₀ at word i₀ o₀ out i o = length word - i
+μ-loop out₀ at word last i₀ out i = length word - i
 
 loop-holds : tie.Need-loop-holds Inv-loop μ-loop
-loop-holds c = (omega arith, omega arith, stored-none _ _, refl)
+loop-holds c = (omega arith, stored-none _ _, refl)
 
 loop-again : tie.Need-loop-again Inv-loop μ-loop
 loop-again c =
-    let a = c .before .before .before .args in
-    let l = c .before .before .loop in (
+    let a = c .before .before .before .before .before .before .before .before .before .args in
+    let l = c .before .before .before .before .before .loop in
+    let p = c .before .before .put-eight in (
       omega arith,
-      omega arith,
-      stored-step (a .out .now) (a .word .now) (a .at) (l .i) (l .inv .2) (l .inv .1) refl (omega arith) (omega arith),
-      simp length-set (l .inv .3),
+      p .ensures
+          ∙ rw (l .inv .1) (stored-over (a .out .now) (a .word .now) (a .at) (l .i) (l .i) 8 (omega arith) (omega arith) (omega arith) (omega arith)),
+      p .kept .0 ∙ l .inv .2,
     )
 
-returns : tie.Need-returns Inv-loop μ-loop
-returns c =
-    let l = c .before .loop in
-    (omega arith, l .inv .2 ∙ ap (stored _ _) (take-all (l .i) _ (omega arith)))
+returns-2 : tie.Need-returns-2 Inv-loop μ-loop
+returns-2 c =
+    let a = c .before .before .before .before .before .before .before .before .before .args in
+    let l = c .before .before .before .before .before .loop in
+    let k = length (a .word .now) - 8 in (
+      refl,
+      c .before .before .put-eight2 .ensures
+          ∙ rw (l .inv .1) (stored-over (a .out .now) (a .word .now) (a .at) (l .i) k 8 (omega arith) (omega arith) (omega arith) (omega arith))
+          ∙ ap (stored _ _) (take-all (k + 8) _ (omega arith)),
+    )
 
 pub put-spec : {M : Type 1} → statement M
 put-spec =
@@ -41,12 +48,11 @@ put-spec =
     (tie.spec
     Inv-loop
     μ-loop
+    (λ c κs. search needs) (λ c. search needs) (λ c. search needs)
+    (λ c. search needs)
     loop-holds
-    (λ c. search needs)
-    (λ c. search needs)
-    (λ c. search needs)
-    (λ c. search needs)
+    (λ c. search needs) (λ c κs. search needs) (λ c. search needs)
     (λ c. search needs)
     loop-again
-    (λ c. search needs)
-    returns)
+    (λ c. search needs) (λ c κs. search needs) (λ c. search needs) (λ c. search needs)
+    returns-2)

@@ -10,7 +10,7 @@ use Rattle.parser.proofs.All.{less-left}
 use Rattle.token.specs.Read.{Valid}
 use Rattle.listing.specs.declared.Look.{Look}
 use Rattle.listing.proofs.Seen.{Saw, saw, read-valid, bad-next}
-use Rattle.listing.proofs.Listed.{Listed, listed-start, listed-length, listed-pass, listed-change, listed-full, listed-refused, listed-done}
+use Rattle.listing.proofs.Listed.{Listed, listed-start, listed-length, passes-read, listed-passes, listed-change, listed-full, listed-refused, listed-done}
 use borrow.Author.Needs.{needs}
 use Rattle.listing.proofs.list.Statement.{statement}
 use Rattle.listing.proofs.list.Tie as tie
@@ -21,8 +21,18 @@ Inv-loop input code rows₀ cap cur₀ n₀ since₀ rows cur n since = Valid in
 abbrev μ-loop : tie.MeasureT-loop
 μ-loop input code rows₀ cap cur₀ n₀ since₀ rows cur n since = length input - cur .place
 
+-- the listing behind the run
+ran : (c : tie.After-cur Inv-loop μ-loop)
+    → let a = c .before .before .before .before .before .before .before .args in
+    let l = c .before .before .loop in
+    let r = c .before .run .result in
+    Listed (now (a .input)) (a .code) (a .c) (now (a .rows)) (l .rows) (r .cursor) (l .n) (r .since)
+ran c = listed-passes _ _ _ _ _ _ _ _ (c .before .before .loop .inv .1) _ _ (c .before .run .ensures)
+
 -- what was read, by what the listing saw
-read : (c : tie.After-look-quick Inv-loop μ-loop) (r : Look) → c .look-quick .result ≡ r → Saw (now (c .before .before .before .before .before .before .args .input)) (c .before .before .before .before .before .before .args .code) (c .before .loop .cur) r
+read : (c : tie.After-look-quick Inv-loop μ-loop) (r : Look) → c .look-quick .result ≡ r
+    → let a = c .before .before .before .before .before .before .before .before .args in
+    Saw (now (a .input)) (a .code) (c .before .before .run .result .cursor) r
 read c r e = saw _ _ _ _ r (c .look-quick .ensures) e
 
 placed-requires : tie.Need-placed-requires Inv-loop μ-loop
@@ -37,17 +47,27 @@ returns c = rw (c .answer .ensures) (listed-refused _ _ _ _ _ _ _ _ (listed-star
 loop-holds : tie.Need-loop-holds Inv-loop μ-loop
 loop-holds c = (good-valid _ _ (sym (c .before .placed .ensures) ∙ not-false _ (c .if1 .left)), listed-start _ _ _ _)
 
+run-requires : tie.Need-run-requires Inv-loop μ-loop
+run-requires c κs = c .loop .inv .0
+
 look-quick-requires : tie.Need-look-quick-requires Inv-loop μ-loop
-look-quick-requires c κs = c .loop .inv .0
+look-quick-requires c κs = c .before .run .ensures .valid
 
 enum-known-d : tie.Need-enum-known-d Inv-loop μ-loop
 enum-known-d c = search needs
 
 loop-less : tie.Need-loop-less Inv-loop μ-loop
-loop-less c = less-left _ _ _ _ (read (c .before .before .before) _ (c .before .d .given .1) .next)
+loop-less c =
+    omega (
+      arith,
+      less-left _ _ _ _ (read (c .before .before .before) _ (c .before .d .given .1) .next),
+      c .before .before .before .before .before .run .ensures .past,
+    )
 
 loop-again : tie.Need-loop-again Inv-loop μ-loop
-loop-again c = let h = read (c .before .before .before) _ (c .before .d .given .1) in (read-valid _ _ _ _ _ h, listed-pass _ _ _ _ _ _ _ _ (c .before .before .before .before .loop .inv .1) _ _ h refl)
+loop-again c =
+    let p = passes-read _ _ _ _ _ _ (read (c .before .before .before) _ (c .before .d .given .1)) refl in
+    (p .valid, listed-passes _ _ _ _ _ _ _ _ (ran (c .before .before .before .before)) _ _ p)
 
 enum-known-d-2 : tie.Need-enum-known-d-2 Inv-loop μ-loop
 enum-known-d-2 c = search needs
@@ -56,31 +76,55 @@ full-requires : tie.Need-full-requires Inv-loop μ-loop
 full-requires c κs = search needs
 
 same-length : tie.Need-same-length Inv-loop μ-loop
-same-length c = listed-length _ _ _ _ _ _ _ _ (c .before .before .before .before .before .before .loop .inv .1)
+same-length c = listed-length _ _ _ _ _ _ _ _ (ran (c .before .before .before .before .before .before))
 
 returns-2 : tie.Need-returns-2 Inv-loop μ-loop
-returns-2 c = rw (c .full .ensures) (listed-full _ _ _ _ _ _ _ _ (c .before .before .before .before .before .before .loop .inv .1) _ _ _ (read (c .before .before .before .before .before) _ (c .before .before .before .d2 .given .1)) (c .before .if2 .taken))
+returns-2 c = rw (c .full .ensures) (listed-full _ _ _ _ _ _ _ _ (ran (c .before .before .before .before .before .before)) _ _ _ (read (c .before .before .before .before .before) _ (c .before .before .before .d2 .given .1)) (c .before .if2 .taken))
 
 put-change-requires : tie.Need-put-change-requires Inv-loop μ-loop
-put-change-requires c κs = omega (arith, listed-length _ _ _ _ _ _ _ _ (c .before .before .before .before .before .before .loop .inv .1), c .before .if2 .left)
+put-change-requires c κs = omega (arith, listed-length _ _ _ _ _ _ _ _ (ran (c .before .before .before .before .before .before)), c .before .if2 .left)
 
 add-n : tie.Need-add-n Inv-loop μ-loop
-add-n c = search needs
+add-n c =
+    record {
+      fits = omega (
+        arith,
+        c .before .before .before .before .if2 .left,
+        c .before .before .before .before .before .before .before .before .before .before .before .before .before .before .before .before .good .1 .1 .1 .0,
+      );
+    }
 
 loop-less-2 : tie.Need-loop-less-2 Inv-loop μ-loop
-loop-less-2 c = less-left _ _ _ _ (read (c .before .before .before .before .before .before .before .before) _ (c .before .before .before .before .before .before .d2 .given .1) .next)
+loop-less-2 c =
+    omega (
+      arith,
+      less-left _ _ _ _ (read (c .before .before .before .before .before .before .before .before) _ (c .before .before .before .before .before .before .d2 .given .1) .next),
+      c .before .before .before .before .before .before .before .before .before .before .run .ensures .past,
+    )
 
 loop-again-2 : tie.Need-loop-again-2 Inv-loop μ-loop
-loop-again-2 c = let h = read (c .before .before .before .before .before .before .before .before) _ (c .before .before .before .before .before .before .d2 .given .1) in (read-valid _ _ _ _ _ h, rw (c .before .before .put-change .ensures) (listed-change _ _ _ _ _ _ _ _ (c .before .before .before .before .before .before .before .before .before .loop .inv .1) _ _ _ h (c .before .before .before .before .if2 .left)))
+loop-again-2 c =
+    let h = read (c .before .before .before .before .before .before .before .before) _ (c .before .before .before .before .before .before .d2 .given .1) in
+    let l = ran (c .before .before .before .before .before .before .before .before .before) in (
+      read-valid _ _ _ _ _ h,
+      rw (c .before .before .put-change .ensures) (listed-change _ _ _ _ _ _ _ _ l _ _ _ h (c .before .before .before .before .if2 .left)),
+    )
 
 enum-known-d-3 : tie.Need-enum-known-d-3 Inv-loop μ-loop
 enum-known-d-3 c = search needs
 
 loop-less-3 : tie.Need-loop-less-3 Inv-loop μ-loop
-loop-less-3 c = less-left _ _ _ _ (read (c .before .before .before) _ (c .before .d3 .given .1) .next)
+loop-less-3 c =
+    omega (
+      arith,
+      less-left _ _ _ _ (read (c .before .before .before) _ (c .before .d3 .given .1) .next),
+      c .before .before .before .before .before .run .ensures .past,
+    )
 
 loop-again-3 : tie.Need-loop-again-3 Inv-loop μ-loop
-loop-again-3 c = let h = read (c .before .before .before) _ (c .before .d3 .given .1) in (read-valid _ _ _ _ _ h, listed-pass _ _ _ _ _ _ _ _ (c .before .before .before .before .loop .inv .1) _ _ h refl)
+loop-again-3 c =
+    let p = passes-read _ _ _ _ _ _ (read (c .before .before .before) _ (c .before .d3 .given .1)) refl in
+    (p .valid, listed-passes _ _ _ _ _ _ _ _ (ran (c .before .before .before .before)) _ _ p)
 
 enum-known-d-4 : tie.Need-enum-known-d-4 Inv-loop μ-loop
 enum-known-d-4 c = search needs
@@ -89,10 +133,10 @@ answer-requires-2 : tie.Need-answer-requires-2 Inv-loop μ-loop
 answer-requires-2 c κs = search needs
 
 same-length-2 : tie.Need-same-length-2 Inv-loop μ-loop
-same-length-2 c = listed-length _ _ _ _ _ _ _ _ (c .before .before .before .before .before .loop .inv .1)
+same-length-2 c = listed-length _ _ _ _ _ _ _ _ (ran (c .before .before .before .before .before))
 
 returns-3 : tie.Need-returns-3 Inv-loop μ-loop
-returns-3 c = rw (c .answer2 .ensures) (listed-refused _ _ _ _ _ _ _ _ (c .before .before .before .before .before .loop .inv .1) _ _ _ (read (c .before .before .before .before) _ (c .before .before .d4 .given .1)))
+returns-3 c = rw (c .answer2 .ensures) (listed-refused _ _ _ _ _ _ _ _ (ran (c .before .before .before .before .before)) _ _ _ (read (c .before .before .before .before) _ (c .before .before .d4 .given .1)))
 
 enum-known-d-5 : tie.Need-enum-known-d-5 Inv-loop μ-loop
 enum-known-d-5 c = search needs
@@ -101,10 +145,10 @@ answer-requires-3 : tie.Need-answer-requires-3 Inv-loop μ-loop
 answer-requires-3 c κs = search needs
 
 same-length-3 : tie.Need-same-length-3 Inv-loop μ-loop
-same-length-3 c = listed-length _ _ _ _ _ _ _ _ (c .before .before .before .before .before .loop .inv .1)
+same-length-3 c = listed-length _ _ _ _ _ _ _ _ (ran (c .before .before .before .before .before))
 
 returns-4 : tie.Need-returns-4 Inv-loop μ-loop
-returns-4 c = rw (c .answer3 .ensures) (listed-done _ _ _ _ _ _ _ _ (c .before .before .before .before .before .loop .inv .1) _ (read (c .before .before .before .before) _ (c .before .before .d5 .given .1)))
+returns-4 c = rw (c .answer3 .ensures) (listed-done _ _ _ _ _ _ _ _ (ran (c .before .before .before .before .before)) _ (read (c .before .before .before .before) _ (c .before .before .d5 .given .1)))
 
 pub list-spec : {M : Type 1} → statement M
 list-spec =
@@ -116,6 +160,7 @@ list-spec =
     answer-requires
     returns
     loop-holds
+    run-requires
     look-quick-requires
     enum-known-d
     loop-less

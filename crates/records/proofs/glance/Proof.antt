@@ -43,7 +43,7 @@ vector-requires c κs =
     (omega (arith, c .before .before .before .before .if1 .left), (c .before .before .before .before .before .before .pre .1, vector-kind _ (c .before .match .keys3)))
 
 returns-3 : tie.Need-returns-3
-returns-3 c = search needs
+returns-3 c = c .time .ensures .0
 
 returns-4 : tie.Need-returns-4
 returns-4 c = search needs

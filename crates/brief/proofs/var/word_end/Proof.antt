@@ -1,89 +1,87 @@
 -- `brief::var::word_end` meets its contract. Assumes nothing.
-use Prim.Native.Nat.{ℕ, _-_}
-use mathlib.Core.List.{List, []}
+use Prim.Native.Nat.{ℕ, _+_, _-_, _≤_, _<_}
+use mathlib.Core.Path.{_≡_}
+use mathlib.Core.List.{List}
 use native.Mathlib.Omega.{arith}
-use borrow.Author.Tests.{ltb-false}
-use lib.ListN.{length}
-use Rattle.brief.proofs.Places.{Stands, stands-none, stands-more, stands-two, worded}
+use lib.ListN.{length, getD}
+use Rattle.text.specs.Plain.{Plain}
+use Rattle.text.proofs.Printable.{plain-join}
+use Rattle.brief.specs.Var.{Worded}
+use Rattle.brief.proofs.Places.{plain-worded}
 use borrow.Author.Needs.{needs}
 use Rattle.brief.proofs.var.word_end.Statement.{statement}
 use Rattle.brief.proofs.var.word_end.Tie as tie
 
-abbrev Inv-loop : tie.InvT-loop
-Inv-loop input at last i₀ i = (w : List ℕ) × Stands input at i w
+-- eight bytes from the word's start, and eight up to its end
+ended : (s : List ℕ) (at e : ℕ) → at + 8 ≤ e → e ≤ at + 16 → e < length s → Plain s at (at + 8) → Plain s (e - 8) (e - 8 + 8)
+    → getD s e 0 ≡ 32 → Worded s at e
+ended s at e l u h p q b =
+    plain-worded s at e (plain-join s at (at + 8) (e - 8) e p (λ i m n. q i m (omega arith)) (omega arith)) (omega arith) h b
 
-abbrev μ-loop : tie.MeasureT-loop
-μ-loop input at last i₀ i = length input - i
+add-if1 : tie.Need-add-if1
+add-if1 c = search needs
 
-returns : tie.Need-returns Inv-loop μ-loop
-returns c = λ h. absurd (omega arith)
+word-end-plain-requires : tie.Need-word-end-plain-requires
+word-end-plain-requires c κs = search needs
 
-sub-last : tie.Need-sub-last Inv-loop μ-loop
-sub-last c = search needs
+returns : tie.Need-returns
+returns c = search needs
 
-loop-holds : tie.Need-loop-holds Inv-loop μ-loop
-loop-holds c = ([], stands-none _ _)
+add-end : tie.Need-add-end
+add-end c = search needs
 
-shared-slice-read-a : tie.Need-shared-slice-read-a Inv-loop μ-loop
-shared-slice-read-a c = search needs
+add-octet : tie.Need-add-octet
+add-octet c = search needs
 
-returns-2 : tie.Need-returns-2 Inv-loop μ-loop
-returns-2 c = λ h. worded _ _ _ _ (c .before .before .before .before .loop .inv .1) (omega arith) h (c .if4 .taken) .0
+octet-requires : tie.Need-octet-requires
+octet-requires c κs = search needs
 
-returns-3 : tie.Need-returns-3 Inv-loop μ-loop
-returns-3 c = λ h. absurd (omega arith)
+guess-requires : tie.Need-guess-requires
+guess-requires c κs = search needs
 
-add-b : tie.Need-add-b Inv-loop μ-loop
-add-b c = search needs
+add-end-2 : tie.Need-add-end-2
+add-end-2 c = search needs
 
-shared-slice-read-b : tie.Need-shared-slice-read-b Inv-loop μ-loop
-shared-slice-read-b c = search needs
+shared-slice-read-if2 : tie.Need-shared-slice-read-if2
+shared-slice-read-if2 c = search needs
 
-add-result : tie.Need-add-result Inv-loop μ-loop
-add-result c = search needs
+plain-eight-requires : tie.Need-plain-eight-requires
+plain-eight-requires c κs = search needs
 
-returns-4 : tie.Need-returns-4 Inv-loop μ-loop
-returns-4 c =
+sub-plain-eight : tie.Need-sub-plain-eight
+sub-plain-eight c = search needs
+
+plain-eight-requires-2 : tie.Need-plain-eight-requires-2
+plain-eight-requires-2 c κs = search needs
+
+returns-2 : tie.Need-returns-2
+returns-2 c =
     λ h.
-    let k = c .before .before .before .before .before .before .before .loop .inv .1 in
-    let one = stands-more _ _ _ _ k (omega arith) (c .before .before .before .before .if2 .left) (ltb-false _ _ (c .before .before .before .if3 .left)) in
-    worded _ _ _ _ one (omega arith) h (c .if7 .taken) .0
+    ended _ _ _ (omega arith) (omega arith) (omega arith) (c .before .before .before .plain-eight .ensures (c .before .before .if3 .taken))
+    (c .before .plain-eight2 .ensures (c .if4 .taken)) (c .before .before .before .before .if2 .taken)
 
-returns-5 : tie.Need-returns-5 Inv-loop μ-loop
-returns-5 c = λ h. absurd (omega arith)
+word-end-plain-requires-2 : tie.Need-word-end-plain-requires-2
+word-end-plain-requires-2 c κs = search needs
 
-add-i : tie.Need-add-i Inv-loop μ-loop
-add-i c = search needs
-
-loop-less : tie.Need-loop-less Inv-loop μ-loop
-loop-less c = search needs
-
-loop-again : tie.Need-loop-again Inv-loop μ-loop
-loop-again c =
-    stands-two _ _ _ _ (c .before .before .before .before .before .before .before .loop .inv .1) (omega arith) (c .before .before .before .before .if2 .left)
-    (ltb-false _ _ (c .before .before .before .if3 .left)) (c .before .if5 .left) (ltb-false _ _ (c .if6 .left))
-
-returns-6 : tie.Need-returns-6 Inv-loop μ-loop
-returns-6 c = λ h. absurd (omega arith)
+returns-3 : tie.Need-returns-3
+returns-3 c = search needs
 
 pub word-end-spec : {M : Type 1} → statement M
 word-end-spec =
     tie.close
     (tie.spec
-    Inv-loop
-    μ-loop
+    add-if1
+    word-end-plain-requires
     returns
-    sub-last
-    loop-holds
-    shared-slice-read-a
+    add-end
+    add-octet
+    octet-requires
+    guess-requires
+    add-end-2
+    shared-slice-read-if2
+    plain-eight-requires
+    sub-plain-eight
+    plain-eight-requires-2
     returns-2
-    returns-3
-    add-b
-    shared-slice-read-b
-    add-result
-    returns-4
-    returns-5
-    add-i
-    loop-less
-    loop-again
-    returns-6)
+    word-end-plain-requires-2
+    returns-3)

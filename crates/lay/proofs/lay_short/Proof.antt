@@ -1,0 +1,18 @@
+-- `lay::lay_short` meets its contract. Assumes nothing.
+use mathlib.Core.Path.{refl}
+use mathlib.Core.List.{[], _∷_}
+use native.Mathlib.Omega.{arith}
+use borrow.Author.Needs.{needs}
+use lib.ListN.{length-set}
+use Rattle.lay.proofs.Storing.{each-stored}
+use Rattle.lay.proofs.lay_short.Statement.{statement}
+use Rattle.lay.proofs.lay_short.Tie as tie
+
+returns : tie.Need-returns
+returns c =
+    let x = c .args in
+    (refl, each-stored (x .out .now) (x .value ∷ x .id ∷ 10 ∷ []) 0 0 2 (omega arith) (omega arith))
+
+pub lay-short-spec : {M : Type 1} → statement M
+lay-short-spec =
+    tie.close (tie.spec (λ c. search needs) (λ c. simp length-set (omega arith)) (λ c. search needs) (λ c. search needs) returns)

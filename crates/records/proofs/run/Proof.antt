@@ -1,0 +1,166 @@
+-- `records::run` meets its contract. Assumes nothing.
+use denote.Ref.{now}
+use Prim.Native.Nat.{ℕ, _+_, _-_, _≤_, _<_}
+use mathlib.Core.List.{List}
+use mathlib.Core.Logic.{⊎-elim}
+use native.Mathlib.Omega.{arith}
+use lib.ListN.{length}
+use Rattle.brief.specs.Brief.{Tells, Near}
+use Rattle.brief.specs.declared.Brief.{Brief}
+use Rattle.brief.specs.declared.Brief.the-variants.{Time, Scalar}
+use Rattle.records.proofs.Taken.{Runs, runs-start, runs-ran, runs-length, runs-room, runs-next}
+use borrow.Author.Needs.{needs}
+use Rattle.records.proofs.run.Statement.{statement}
+use Rattle.records.proofs.run.Tie as tie
+
+abbrev Inv-loop : tie.InvT-loop
+Inv-loop input records₀ n room stop cur₀ at₀ records cur at = Runs input cur₀ n records₀ stop cur at records
+
+abbrev μ-loop : tie.MeasureT-loop
+μ-loop input records₀ n room stop cur₀ at₀ records cur at = stop - at
+
+-- there is room for one more, and numbers stay small
+entered : (c : tie.After-near Inv-loop μ-loop) → c .before .before .loop .at + 9 ≤ length (c .before .before .loop .records)
+entered c = runs-room _ _ _ _ _ _ _ _ (c .before .before .loop .inv) (c .before .loop-test .taken) .0
+
+abbrev input-of : tie.After-near Inv-loop μ-loop → List ℕ
+input-of c = now (c .before .before .before .before .before .before .args .input)
+
+small : (c : tie.After-near Inv-loop μ-loop) (e : ℕ) → e < length (input-of c)
+    → (e < 4294967295) × (c .before .before .loop .cur .line ≤ 4294967296)
+small c e h = omega (arith, c .before .before .loop .inv .ran .valid)
+
+-- what the look told
+abbrev Looked : tie.After-near Inv-loop μ-loop → Brief → Type 0
+Looked c b = let p = c .before .before .loop .cur .place in Tells (input-of c) p b × Near p b
+
+time : (c : tie.After-t Inv-loop μ-loop) → Looked (c .before .before) (Time (c .t .given .0 .0) (c .t .given .0 .1 .0))
+time c = rw (c .t .given .1) at (c .before .before .near .ensures)
+
+scalar : (c : tie.After-i Inv-loop μ-loop) → Looked (c .before .before) (Scalar (c .i .given .0 .0) (c .i .given .0 .1 .0))
+scalar c = rw (c .i .given .1) at (c .before .before .near .ensures)
+
+sub-room : tie.Need-sub-room Inv-loop μ-loop
+sub-room c = search needs
+
+most-requires : tie.Need-most-requires Inv-loop μ-loop
+most-requires c κs = search needs
+
+add-stop : tie.Need-add-stop Inv-loop μ-loop
+add-stop c = search needs
+
+mul-stop : tie.Need-mul-stop Inv-loop μ-loop
+mul-stop c = search needs
+
+mul-at : tie.Need-mul-at Inv-loop μ-loop
+mul-at c = search needs
+
+loop-holds : tie.Need-loop-holds Inv-loop μ-loop
+loop-holds c =
+    let h = c .most .ensures in
+    let p = c .before .before .before .pre in
+    runs-start _ _ _ _ _ (p .0) (omega (arith, h, p)) (h .0)
+
+near-requires : tie.Need-near-requires Inv-loop μ-loop
+near-requires c κs = let l = c .before .loop .inv in (runs-room _ _ _ _ _ _ _ _ l (c .loop-test .taken) .1, l .ran .valid .short)
+
+enum-known-t : tie.Need-enum-known-t Inv-loop μ-loop
+enum-known-t c = search needs
+
+put-at-requires : tie.Need-put-at-requires Inv-loop μ-loop
+put-at-requires c κs = entered (c .before .before .before .before)
+
+shared-slice-read-word-read : tie.Need-shared-slice-read-word-read Inv-loop μ-loop
+shared-slice-read-word-read c = time (c .before .before .before .before .before .before) .0 .inside
+
+word-read-requires : tie.Need-word-read-requires Inv-loop μ-loop
+word-read-requires c κs = let q = c .before .before .before .before .before .before in small (q .before .before) _ (time q .0 .inside)
+
+enum-known-i : tie.Need-enum-known-i Inv-loop μ-loop
+enum-known-i c = search needs
+
+shared-slice-read-value-at : tie.Need-shared-slice-read-value-at Inv-loop μ-loop
+shared-slice-read-value-at c = let h = scalar (c .before .before) .0 .change in omega (arith, h .past, h .inside)
+
+value-at-requires : tie.Need-value-at-requires Inv-loop μ-loop
+value-at-requires c κs = search needs
+
+put-at-requires-2 : tie.Need-put-at-requires-2 Inv-loop μ-loop
+put-at-requires-2 c κs = entered (c .before .before .before .before .before .before)
+
+shared-slice-read-word-read-2 : tie.Need-shared-slice-read-word-read-2 Inv-loop μ-loop
+shared-slice-read-word-read-2 c = scalar (c .before .before .before .before .before .before .before .before) .0 .change .inside
+
+word-read-requires-2 : tie.Need-word-read-requires-2 Inv-loop μ-loop
+word-read-requires-2 c κs =
+    let q = c .before .before .before .before .before .before .before .before in
+    small (q .before .before) _ (scalar q .0 .change .inside)
+
+so-far-requires : tie.Need-so-far-requires Inv-loop μ-loop
+so-far-requires c κs = search needs
+
+same-length : tie.Need-same-length Inv-loop μ-loop
+same-length c = runs-length _ _ _ _ _ _ _ _ (c .before .before .before .before .loop .inv)
+
+returns : tie.Need-returns Inv-loop μ-loop
+returns c = rw (c .so-far .ensures) (runs-ran _ _ _ _ _ _ _ _ (c .before .before .before .before .loop .inv))
+
+add-at : tie.Need-add-at Inv-loop μ-loop
+add-at c = omega (arith, entered (c .before))
+
+loop-less : tie.Need-loop-less Inv-loop μ-loop
+loop-less c = omega (arith, c .before .before .loop-test .taken)
+
+loop-again : tie.Need-loop-again Inv-loop μ-loop
+loop-again c =
+    let next = runs-next _ _ _ _ _ _ _ _ (c .before .before .before .loop .inv) (c .before .before .loop-test .taken) in
+    ⊎-elim
+    (λ w.
+    let q = time (record { before = record { before = c .before; match = w .0 }; t = w .1 }) in
+    rw (w .10, w .8 .ensures, w .9, w .4 .ensures) (next _ _ (q .0) (q .1)))
+    (λ w.
+    let q = scalar (record { before = record { before = c .before; match = w .0 }; i = w .1 }) in
+    rw (w .12, w .10 .ensures, w .11, w .6 .ensures, w .4 .ensures, q .0 .means) (next _ _ (q .0 .change) (q .1)))
+    (c .match .came)
+
+so-far-requires-2 : tie.Need-so-far-requires-2 Inv-loop μ-loop
+so-far-requires-2 c κs = search needs
+
+same-length-2 : tie.Need-same-length-2 Inv-loop μ-loop
+same-length-2 c = runs-length _ _ _ _ _ _ _ _ (c .before .before .loop .inv)
+
+returns-2 : tie.Need-returns-2 Inv-loop μ-loop
+returns-2 c = rw (c .so-far2 .ensures) (runs-ran _ _ _ _ _ _ _ _ (c .before .before .loop .inv))
+
+pub run-spec : {M : Type 1} → statement M
+run-spec =
+    tie.close
+    (tie.spec
+    Inv-loop
+    μ-loop
+    sub-room
+    most-requires
+    add-stop
+    mul-stop
+    mul-at
+    loop-holds
+    near-requires
+    enum-known-t
+    put-at-requires
+    shared-slice-read-word-read
+    word-read-requires
+    enum-known-i
+    shared-slice-read-value-at
+    value-at-requires
+    put-at-requires-2
+    shared-slice-read-word-read-2
+    word-read-requires-2
+    so-far-requires
+    same-length
+    returns
+    add-at
+    loop-less
+    loop-again
+    so-far-requires-2
+    same-length-2
+    returns-2)
