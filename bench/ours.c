@@ -1,6 +1,6 @@
-// `ours MODE FILE TURNS [ID [SIZE]]`: the library over a file that is in memory, with the words and answers of crate_bench (bench/crate);
-// beside its modes `next`, which reads as `read` does but by one call a command, and `changes`, which lists as `list` does but reads no
-// header first. With a size the file is taken as many dumps of that many bytes, one after the other, cut behind a newline. `ours
+// `ours MODE FILE TURNS [ID [SIZE...]]`: the library over a file that is in memory, with the words and answers of crate_bench (bench/crate);
+// beside its modes `next`, which reads as `read` does but by one call a command, `changes`, which lists as `list` does but reads no
+// header first, and `turns`, which rewrites as `commands` does but into the same 64 KB again and again. With sizes the file is taken as many dumps of so many bytes, one after the other, cut behind a newline. `ours
 // reformat` rewrites standard input to standard output.
 #include <fcntl.h>
 #include <stdint.h>
@@ -14,8 +14,8 @@
 
 #include "vcd.h"
 
-// Records read a call; bytes written a call by `reformat`; bytes that a row's command has at least (`$comment $end`).
-enum { RECORDS = 256, ROOM = 65536, ROW_BYTES = 13 };
+// Records read a call; bytes written a call by `reformat`; bytes that a row's command has at least (`$comment $end`); sizes in a call.
+enum { RECORDS = 256, ROOM = 65536, ROW_BYTES = 13, MOST_SIZES = 8 };
 
 // A dump, the code to list, and what is lent to the calls. Nothing lent is cleared between turns.
 struct dump {
@@ -123,6 +123,18 @@ static struct found commands(struct dump *d) {
   return (struct found){n, 0};
 }
 
+// The same in turns, each into the same memory.
+static struct found in_turns(struct dump *d) {
+  uint64_t cursor[VCD_CURSOR] = VCD_CURSOR_START, writer[VCD_WRITER] = VCD_WRITER_START, n = 0, line, status;
+  struct found f = {0, 0};
+  do {
+    status = vcd_rewrite(d->bytes, d->len, cursor, VCD_CURSOR, writer, VCD_WRITER, d->out, ROOM, &n, &line);
+    f.count += n;
+  } while (status == VCD_NO_ROOM && n > 0);
+  expect("vcd_rewrite", VCD_OK, status);
+  return f;
+}
+
 // The header through its table, then every command, written anew into memory.
 static struct found rewrite(struct dump *d) {
   uint64_t cursor[VCD_CURSOR] = VCD_CURSOR_START, writer[VCD_WRITER] = VCD_WRITER_START, n, line;
@@ -225,7 +237,7 @@ static work *mode_of(const char *name) {
     const char *name;
     work *does;
   } modes[] = {{"load", load},         {"read", read_all},           {"next", next_all},   {"list", list},     {"changes", changes},
-               {"commands", commands}, {"command-bytes", commands}, {"rewrite", rewrite}, {"bytes", rewrite}};
+               {"commands", commands}, {"command-bytes", commands}, {"turns", in_turns}, {"rewrite", rewrite}, {"bytes", rewrite}};
   for (size_t i = 0; i < sizeof modes / sizeof *modes; i++)
     if (strcmp(name, modes[i].name) == 0) return modes[i].does;
   die("no such mode");
@@ -247,19 +259,22 @@ static struct found in_parts(work *does, struct dump *d, size_t size) {
   return sum;
 }
 
-static void measure(work *does, struct dump *d, int turns, size_t size, int written) {
+// The best of so many turns for each size, a line each; the sizes by turns, so that a busy while of the machine falls on all.
+static void measure(work *does, struct dump *d, int turns, const size_t *sizes, int count, int written) {
   struct found f = {0, 0};
-  uint64_t best = UINT64_MAX;
-  for (int i = 0; i < turns; i++) {
+  uint64_t best[MOST_SIZES];
+  for (int i = 0; i < turns * count; i++) {
     uint64_t start = nanoseconds();
-    f = in_parts(does, d, size);
+    f = in_parts(does, d, sizes[i % count]);
     uint64_t took = nanoseconds() - start;
-    if (took < best) best = took;
+    if (i < count || took < best[i % count]) best[i % count] = took;
   }
-  if (written)
+  if (written) {
     put(d->out, f.count);
-  else
-    printf("%llu %llu %llu\n", (unsigned long long)f.count, (unsigned long long)f.sum, (unsigned long long)best);
+    return;
+  }
+  for (int i = 0; i < count; i++)
+    printf("%llu %llu %llu\n", (unsigned long long)f.count, (unsigned long long)f.sum, (unsigned long long)best[i]);
 }
 
 int main(int argc, char **argv) {
@@ -268,11 +283,15 @@ int main(int argc, char **argv) {
     reformat(&d);
     return 0;
   }
-  if (argc < 4) die("usage: ours MODE FILE TURNS [ID [SIZE]], or ours reformat");
+  if (argc < 4) die("usage: ours MODE FILE TURNS [ID [SIZE...]], or ours reformat");
   int file = open(argv[2], O_RDONLY);
   if (file < 0) die("cannot open the file");
   struct dump d = whole(file);
   if (argc > 4) expect("vcd_id_code", VCD_OK, vcd_id_code((const uint8_t *)argv[4], strlen(argv[4]), &d.code));
-  measure(mode_of(argv[1]), &d, atoi(argv[3]), argc > 5 ? strtoull(argv[5], NULL, 10) : d.len, strstr(argv[1], "bytes") != NULL);
+  size_t sizes[MOST_SIZES] = {d.len};
+  int count = argc > 5 ? argc - 5 : 1;
+  if (count > MOST_SIZES) die("too many sizes");
+  for (int i = 5; i < argc; i++) sizes[i - 5] = strtoull(argv[i], NULL, 10);
+  measure(mode_of(argv[1]), &d, atoi(argv[3]), sizes, count, strstr(argv[1], "bytes") != NULL);
   return 0;
 }

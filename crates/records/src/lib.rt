@@ -99,7 +99,8 @@ struct Reached {
     count: usize,
 }
 
-// The most usual commands that stand next, into their records from `n` on.
+// The most usual commands that stand next, into their records from `n` on. The byte that ends one is read before its record is stored, so
+// that it need not be read again.
 fn run(input: &[u8], c: Cursor, records: &mut [u64], n: usize) -> Reached
     requires { ⌜ Valid (now input) c × (9 * n ≤ length (now records)) ⌝ }
     ensures { λ r. ⌜ Ran (now (input .entry)) c n (now (records .entry)) (r .cursor) (r .count) (now (records .exit)) ⌝ }
@@ -112,13 +113,15 @@ fn run(input: &[u8], c: Cursor, records: &mut [u64], n: usize) -> Reached
         let place = cur.place;
         match brief::near(input, place) {
             Brief::Time(t, end) => {
+                let b = input[end];
                 put_at(records, at, 9, 0, t, 0, 0, 0, 0, 0, 0);
-                cur = token::word_read(cur, end, input[end]);
+                cur = token::word_read(cur, end, b);
             }
             Brief::Scalar(i, end) => {
+                let b = input[end];
                 let v = types::value_at(input[place]);
                 put_at(records, at, 10, v, 0, i, 0, 0, 0, 0, 0);
-                cur = token::word_read(cur, end, input[end]);
+                cur = token::word_read(cur, end, b);
             }
             _ => {
                 return so_far(cur, at / WORDS);

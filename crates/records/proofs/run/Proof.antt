@@ -67,11 +67,11 @@ near-requires c κs = let l = c .before .loop .inv in (runs-room _ _ _ _ _ _ _ _
 enum-known-t : tie.Need-enum-known-t Inv-loop μ-loop
 enum-known-t c = search needs
 
-put-at-requires : tie.Need-put-at-requires Inv-loop μ-loop
-put-at-requires c κs = entered (c .before .before .before .before)
+shared-slice-read-b : tie.Need-shared-slice-read-b Inv-loop μ-loop
+shared-slice-read-b c = time (c .before .before) .0 .inside
 
-shared-slice-read-word-read : tie.Need-shared-slice-read-word-read Inv-loop μ-loop
-shared-slice-read-word-read c = time (c .before .before .before .before .before .before) .0 .inside
+put-at-requires : tie.Need-put-at-requires Inv-loop μ-loop
+put-at-requires c κs = entered (c .before .before .before .before .before)
 
 word-read-requires : tie.Need-word-read-requires Inv-loop μ-loop
 word-read-requires c κs = let q = c .before .before .before .before .before .before in small (q .before .before) _ (time q .0 .inside)
@@ -79,17 +79,17 @@ word-read-requires c κs = let q = c .before .before .before .before .before .be
 enum-known-i : tie.Need-enum-known-i Inv-loop μ-loop
 enum-known-i c = search needs
 
+shared-slice-read-b-2 : tie.Need-shared-slice-read-b-2 Inv-loop μ-loop
+shared-slice-read-b-2 c = scalar (c .before .before) .0 .change .inside
+
 shared-slice-read-value-at : tie.Need-shared-slice-read-value-at Inv-loop μ-loop
-shared-slice-read-value-at c = let h = scalar (c .before .before) .0 .change in omega (arith, h .past, h .inside)
+shared-slice-read-value-at c = let h = scalar (c .before .before .before) .0 .change in omega (arith, h .past, h .inside)
 
 value-at-requires : tie.Need-value-at-requires Inv-loop μ-loop
 value-at-requires c κs = search needs
 
 put-at-requires-2 : tie.Need-put-at-requires-2 Inv-loop μ-loop
-put-at-requires-2 c κs = entered (c .before .before .before .before .before .before)
-
-shared-slice-read-word-read-2 : tie.Need-shared-slice-read-word-read-2 Inv-loop μ-loop
-shared-slice-read-word-read-2 c = scalar (c .before .before .before .before .before .before .before .before) .0 .change .inside
+put-at-requires-2 c κs = entered (c .before .before .before .before .before .before .before)
 
 word-read-requires-2 : tie.Need-word-read-requires-2 Inv-loop μ-loop
 word-read-requires-2 c κs =
@@ -117,10 +117,10 @@ loop-again c =
     ⊎-elim
     (λ w.
     let q = time (record { before = record { before = c .before; match = w .0 }; t = w .1 }) in
-    rw (w .10, w .8 .ensures, w .9, w .4 .ensures) (next _ _ (q .0) (q .1)))
+    rw (w .10, w .8 .ensures, w .9, w .5 .ensures) (next _ _ (q .0) (q .1)))
     (λ w.
     let q = scalar (record { before = record { before = c .before; match = w .0 }; i = w .1 }) in
-    rw (w .12, w .10 .ensures, w .11, w .6 .ensures, w .4 .ensures, q .0 .means) (next _ _ (q .0 .change) (q .1)))
+    rw (w .12, w .10 .ensures, w .11, w .7 .ensures, w .5 .ensures, q .0 .means) (next _ _ (q .0 .change) (q .1)))
     (c .match .came)
 
 so-far-requires-2 : tie.Need-so-far-requires-2 Inv-loop μ-loop
@@ -146,14 +146,14 @@ run-spec =
     loop-holds
     near-requires
     enum-known-t
+    shared-slice-read-b
     put-at-requires
-    shared-slice-read-word-read
     word-read-requires
     enum-known-i
+    shared-slice-read-b-2
     shared-slice-read-value-at
     value-at-requires
     put-at-requires-2
-    shared-slice-read-word-read-2
     word-read-requires-2
     so-far-requires
     same-length
