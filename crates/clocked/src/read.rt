@@ -1,9 +1,9 @@
 // Reading: the wires are found by their names, and each falling edge of the clock takes the data's value.
 use command::Command;
-use header::FoundRow;
-use header::Row;
+use find::FoundRow;
 use idcode::IdCode;
 use parser::Next;
+use rows::Row;
 use token::Cursor;
 use value::Value;
 
@@ -26,8 +26,8 @@ pub fn read_clocked_vcd(input: &[u8]) -> u32 {
 // The code of a wire; where there is none, the number that is no id.
 fn wire(input: &[u8], rows: &[u64], count: usize, path: &[u8]) -> IdCode {
     let none = IdCode(0xffff_ffff_ffff_ffff);
-    match header::find_var(input, rows, count, path) {
-        FoundRow::At(n) => match header::row_at(rows, n.0 as usize) {
+    match find::find_var(input, rows, count, path) {
+        FoundRow::At(n) => match rows::row_at(rows, n.0 as usize) {
             Row::Var(_, v) => v.code,
             Row::Scope(_, _, _) => none,
             Row::Comment(_, _) => none,

@@ -1,4 +1,4 @@
-// Writing: each call goes behind the bytes of the one before, with the state that it answered.
+// Writing: each call goes after the bytes of the one before, with the state that it answered.
 use command::SimulationCommand;
 use command::Time;
 use idcode::IdCode;

@@ -1,2 +1,4 @@
+pub mod Words
 pub mod Refusals
 pub mod Meaning
+pub mod Numbers

@@ -1,6 +1,5 @@
 -- What a command means: its texts as bytes, its vectors as values.
 use Prim.Native.Nat.{ℕ}
-use Prim.Native.String.{String}
 use mathlib.Core.List.{List, map}
 use Rattle.idcode.specs.declared.IdCode.{IdCode}
 use Rattle.scope.specs.declared.ReferenceIndex.{ReferenceIndex}
@@ -13,6 +12,7 @@ use Rattle.value.specs.declared.Value.{Value}
 use Rattle.command.specs.declared.Command.{Command}
 use Rattle.command.specs.declared.Open.{Open}
 use Rattle.command.specs.declared.SimulationCommand.{SimulationCommand}
+use Rattle.command.specs.declared.Word.{Word}
 
 -- the three commands that are a text alone
 pub data Remark : Type 0 where
@@ -70,14 +70,8 @@ openAfter (change i v) o = o
 openAfter (begin k) o = Open.Of k
 openAfter (end k) o = Open.None
 
--- the names, said once for reading and for writing
-abbrev pub remarkName : Remark → String
-remarkName comment = "comment"
-remarkName date = "date"
-remarkName version = "version"
-
-abbrev pub simName : SimulationCommand → String
-simName SimulationCommand.Dumpall = "dumpall"
-simName SimulationCommand.Dumpoff = "dumpoff"
-simName SimulationCommand.Dumpon = "dumpon"
-simName SimulationCommand.Dumpvars = "dumpvars"
+-- the word of a remark
+abbrev pub remarkWord : Remark → Word
+remarkWord comment = Word.Comment
+remarkWord date = Word.Date
+remarkWord version = Word.Version

@@ -1,11 +1,11 @@
 // The look-ups by path, the examples of the crate's documentation among them: a dump on standard input, a line `--`, then paths, one a
 // line; for each the scope and the variable that it names. The stored output is the crate's (oracle/src/bin/finds.rs).
-use header::FoundRow;
-use header::Row;
+use find::FoundRow;
 use replay::put;
 use replay::put_byte;
 use replay::put_number;
 use replay::put_word;
+use rows::Row;
 use text::Text;
 
 fn main() {
@@ -16,12 +16,12 @@ fn main() {
     replay::write_front(&out, used);
 }
 
-// The header ends at its `$enddefinitions`, and the paths begin behind the line `--`.
+// The header ends at its `$enddefinitions`, and the paths begin after the line `--`.
 fn answer_all(input: &[u8], out: &mut [u8]) -> usize {
     let mut rows = [0u64; 320];
     let h = header::read_header(input, parser::start(), &mut rows);
     let c = h.cursor;
-    let mut at = behind_line(input, c.place);
+    let mut at = after_line(input, c.place);
     let mut o: usize = 0;
     let mut lines: u64 = 0;
     // Every line has a byte at least.
@@ -31,15 +31,15 @@ fn answer_all(input: &[u8], out: &mut [u8]) -> usize {
         }
         let line = replay::line_at(input, at);
         o = answer_path(input, &rows, h.count, text::part(input, line), out, o);
-        at = behind_line(input, at);
+        at = after_line(input, at);
         lines += 1;
     }
     o
 }
 
-// The place behind the line that begins at `at`.
-fn behind_line(input: &[u8], at: usize) -> usize {
-    replay::behind(input, replay::line_at(input, at))
+// The place after the line that begins at `at`.
+fn after_line(input: &[u8], at: usize) -> usize {
+    replay::after(input, replay::line_at(input, at))
 }
 
 fn answer_path(
@@ -54,7 +54,7 @@ fn answer_path(
     let o = put_found(
         input,
         rows,
-        header::find_scope(input, rows, count, path),
+        find::find_scope(input, rows, count, path),
         out,
         o,
     );
@@ -62,7 +62,7 @@ fn answer_path(
     put_found(
         input,
         rows,
-        header::find_var(input, rows, count, path),
+        find::find_var(input, rows, count, path),
         out,
         o,
     )
@@ -70,7 +70,7 @@ fn answer_path(
 
 fn put_found(input: &[u8], rows: &[u64], found: FoundRow, out: &mut [u8], at: usize) -> usize {
     match found {
-        FoundRow::At(n) => put_row(input, header::row_at(rows, n.0 as usize), out, at),
+        FoundRow::At(n) => put_row(input, rows::row_at(rows, n.0 as usize), out, at),
         FoundRow::None => put(out, at, b" -\n"),
     }
 }

@@ -12,7 +12,7 @@ use Rattle.header.specs.Level.{duty, itemOf, tableOf, closeOf, misplaced
 use Rattle.header.specs.declared.Header.{Header}
 use Rattle.header.specs.declared.Item.{Item}
 use Rattle.header.specs.declared.Part.{Part}
-use Rattle.header.specs.declared.rows.Parent.{Parent}
+use Rattle.rows.specs.declared.Parent.{Parent}
 
 abbrev rowless : List ℕ
 rowless = 1 ∷ 2 ∷ 3 ∷ 5 ∷ 7 ∷ 8 ∷ 9 ∷ 10 ∷ 11 ∷ 12 ∷ 13 ∷ 14 ∷ []

@@ -12,11 +12,11 @@ use Rattle.command.specs.declared.Command.{Command}
 use Rattle.parser.specs.All.{Commands, command, stop, finish, commands}
 use Rattle.text.proofs.Lists.{by-test}
 use Rattle.token.specs.declared.Cursor.{Cursor}
-use Rattle.header.specs.Good.{isParent, openTo, isGoodFrom, isGoodTable}
+use Rattle.rows.specs.Good.{isParent, openTo, isGoodFrom, isGoodTable}
 use Rattle.header.specs.Header.{nothing, withDate, withVersion, withTimescale, Step, on, off, whole, inner, added, atTop, closed, move, Outcome, follow, readRows, headerOf}
 use Rattle.header.specs.declared.Header.{Header}
-use Rattle.header.specs.declared.rows.Parent.{Parent}
-use Rattle.header.specs.declared.rows.Row.{Row}
+use Rattle.rows.specs.declared.Parent.{Parent}
+use Rattle.rows.specs.declared.Row.{Row}
 
 -- ---- the open scopes: rows made, each before the one in it
 abbrev pub Falls : ℕ → List ℕ → Type 0

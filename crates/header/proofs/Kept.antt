@@ -9,23 +9,24 @@ use lib.ListN.{length}
 use Rattle.command.specs.declared.Command.{Command}
 use Rattle.parser.specs.All.{Commands, command, stop, finish, followed, commandsOn, commands}
 use Rattle.parser.specs.Next.{nextFrom}
-use Rattle.parser.specs.declared.Next.{Next}
+use Rattle.parser_part.specs.declared.Next.{Next}
 use Rattle.parser.proofs.Moved.{Inside}
+use Rattle.parser.proofs.Ranged.{Ranged, command-ranged}
 use Rattle.parser.proofs.Stated.{command-inside}
 use Rattle.text.specs.Texts.{isWithin}
 use Rattle.text.specs.declared.Text.{Text}
+use Rattle.text.proofs.Each.{Each, each-append, each-map}
 use Rattle.text.proofs.Lists.{by-test}
 use Rattle.text.proofs.Places.{within-yes}
 use Rattle.token.specs.declared.Cursor.{Cursor}
 use Rattle.token.proofs.Tokens.{Within}
-use Rattle.header.specs.Header.{nothing, withDate, withVersion, withTimescale, Step, on, off, whole, inner, added, atTop, closed, move, Outcome, follow, readRows, headerOf, filled}
-use Rattle.header.specs.Rows.{rowsOf}
+use Rattle.header.specs.Header.{nothing, withDate, withVersion, withTimescale, Step, on, off, whole, inner, added, atTop, closed, move, Outcome, follow, readRows, headerOf}
+use Rattle.rows.specs.Rows.{filled, rowsOf}
 use Rattle.header.specs.declared.Header.{Header}
 use Rattle.header.specs.declared.KeptText.{KeptText}
-use Rattle.header.specs.declared.rows.Row.{Row}
-use Rattle.header.proofs.Fits.{ParentFits, Fits, Each, filled-back}
+use Rattle.rows.specs.declared.Row.{Row}
+use Rattle.rows.proofs.Fits.{ParentFits, Fits, filled-back}
 use Rattle.header.proofs.Good.{Falls, State, then, GoodStep, step-good, start}
-use Rattle.header.proofs.Ranged.{Ranged, command-ranged}
 
 -- ---- what is said of a row, and of what is kept
 abbrev pub TextIn : List ℕ → Row → Type 0
@@ -127,10 +128,6 @@ module _ (s : List ℕ) (cap n : ℕ) (st gs : List ℕ) (h : Header) (l : cap �
 abbrev OutcomeIn : List ℕ → Outcome → Type 0
 OutcomeIn s o = Each (Row-ok s) (o .rows) × HeaderIn s (o .kept)
 
-each-append : (P : Row → Type 0) (a b : List Row) → Each P a → Each P b → Each P (a ++ b)
-each-append P [] b x y = y
-each-append P (r ∷ a) b x y = (x .0, each-append P a b (x .1) y)
-
 follow-in : (s : List ℕ) (cap n : ℕ) (gs : List ℕ) (d : Cursor) (h : Header) (v : Step) (more : List ℕ → List Row → Header → Outcome)
     → HeaderIn s h → GoodStep cap n gs v → StepIn s v
     → ((st : List ℕ) (rs : List Row) (h′ : Header) → State cap (n + length rs) st (then gs st rs) → HeaderIn s h′ → OutcomeIn s (more st rs h′))
@@ -150,10 +147,6 @@ rows-in s cap l (command k d more) t n st gs h w i =
     (λ st′ rs h′ w′ i′. rows-in s cap l more (t .2) (n + length rs) st′ (then gs st′ rs) h′ w′ i′)
 rows-in s cap l (stop e q d) t n st gs h w i = (tt, i)
 rows-in s cap l (finish d) t n st gs h w i = (tt, i)
-
-each-map : (P Q : Row → Type 0) → ((r : Row) → P r → Q r) → (rs : List Row) → Each P rs → Each Q rs
-each-map P Q f [] x = tt
-each-map P Q f (r ∷ rs) x = (f r (x .0), each-map P Q f rs (x .1))
 
 module _ (s : List ℕ) (c : Cursor) (table : List ℕ) where
   abbrev out : Outcome

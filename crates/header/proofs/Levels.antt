@@ -1,4 +1,4 @@
--- What a command does to what is still to come: `after m n (rest ..)` is the same before it and behind it, or is known. Then what the
+-- What a command does to what is still to come: `after m n (rest ..)` is the same before it and after it, or is known. Then what the
 -- private functions promise of an item, of the end of a scope, of some variables, of a scope's items and of what is kept at top.
 use Prim.Native.Nat.{ℕ, suc, _+_, _-_, _≤_, _<_}
 use mathlib.Core.Path.{_≡_, refl, sym, ap, _∙_}
@@ -13,22 +13,22 @@ use Rattle.command.specs.declared.Command.{Command}
 use Rattle.command.specs.declared.Refusal.{Refusal}
 use Rattle.parser.specs.All.{Commands, followed, commands}
 use Rattle.parser.specs.Next.{nextFrom}
-use Rattle.parser.specs.Plan.{varDef}
-use Rattle.parser.specs.declared.Next.{Next}
+use Rattle.parser_part.specs.Plan.{varDef}
+use Rattle.parser_part.specs.declared.Next.{Next}
 use Rattle.parser.proofs.All.{commands-step, less-left}
 use Rattle.scope.specs.declared.Var.{Var}
 use Rattle.text.proofs.Lists.{by-test}
 use Rattle.token.specs.declared.Cursor.{Cursor}
 use Rattle.header.specs.Header.{Step, on, off, whole, inner, added, atTop, closed, move, Outcome, ending, follow, readRows}
 use Rattle.header.specs.Level.{Duty, scope, leaf, keeps, closes, ends, strange, duty, hasRow, itemBy, itemOf, tableBy, tableOf, closeBy, closeOf, keepBy, keepOf, final, fill, after, rest, Here, Took, Passes, Follows}
-use Rattle.header.specs.Rows.{put, rowWords}
+use Rattle.rows.specs.Rows.{put, rowWords}
 use Rattle.header.specs.declared.Ended.{Ended}
 use Rattle.header.specs.declared.Header.{Header}
 use Rattle.header.specs.declared.Item.{Item}
 use Rattle.header.specs.declared.Move.{Move}
 use Rattle.header.specs.declared.Part.{Part}
-use Rattle.header.specs.declared.rows.Parent.{Parent}
-use Rattle.header.specs.declared.rows.Row.{Row}
+use Rattle.rows.specs.declared.Parent.{Parent}
+use Rattle.rows.specs.declared.Row.{Row}
 
 -- ---- the moves, by what a command is for
 abbrev moveBy : ℕ → Duty → List ℕ → ℕ → Header → Step
@@ -200,7 +200,7 @@ module _ {s : List ℕ} {cap p levels n₀ n : ℕ} {c₀ c : Cursor} {m₀ m : 
   abbrev Ends : Part → List ℕ → Type 0
   Ends = Follows s cap p levels c₀ m₀ n₀
 
-  -- behind some variables, a leaf, a scope
+  -- after some variables, a leaf, a scope
   pub reached-vars : (d : Cursor) (n′ : ℕ) (m′ : List ℕ) → Passes s cap (Parent.Of (record { 0 = p })) c m n d n′ m′ → On d m′ n′
   reached-vars d n′ m′ f = record {
     room = f .0;

@@ -7,20 +7,14 @@ use native.Mathlib.Nat.{add-zero, zero-add}
 use lib.ListN.{length, take, drop, length-append, length-drop, take-append-drop}
 use lib.Seq.{length-take-le, take-at, drop-append-add, drop-drop}
 use Rattle.token.specs.declared.Cursor.{Cursor}
-use Rattle.header.specs.Header.{Outcome, answerOf, filled}
+use Rattle.header.specs.Header.{Outcome, answerOf}
 use Rattle.header.specs.Level.{final, fill, after}
-use Rattle.header.specs.Rows.{rowWords, wordsOf, put}
+use Rattle.rows.specs.Rows.{wordsIn, rowWords, wordsOf, put, filled}
 use Rattle.header.specs.declared.Ended.{Ended}
 use Rattle.header.specs.declared.Header.{Header}
 use Rattle.header.specs.declared.HeaderAnswer.{HeaderAnswer}
-use Rattle.header.specs.declared.rows.Row.{Row}
-use Rattle.header.proofs.Words.{three}
-
-pub ten : (r : Row) → length (rowWords r) ≡ 10
-ten (Row.Scope p k t) = refl
-ten (Row.Var p v) = rw (three (v .index))
-ten (Row.Comment p t) = refl
-ten Row.None = refl
+use Rattle.rows.specs.declared.Row.{Row}
+use Rattle.rows.proofs.Words.{ten}
 
 module _ (m : List ℕ) (n : ℕ) (w : List ℕ) (e : length w ≡ 10) (h : 10 * n + 10 ≤ length m) where
   up-to : length (take (10 * n) m ++ w) ≡ 10 * n + 10
@@ -56,12 +50,12 @@ fill-words m n (r ∷ rs) h =
     let e₁ : 10 * (n + 1) ≡ 10 * n + 10 = omega arith in
     let e₂ : 10 * (n + 1 + length rs) ≡ 10 * (n + suc (length rs)) = omega arith in
     let l : 10 * n + 10 ≤ length m = omega arith in
-    fill-words (put m n (rowWords r)) (n + 1) rs (rw (length-put m n (rowWords r) (ten r) l) (omega arith))
+    fill-words (put m n (rowWords r)) (n + 1) rs (rw (length-put m n (rowWords r) (ten (wordsIn r)) l) (omega arith))
     ∙ rw (
       e₁,
       e₂,
-      front m n (rowWords r) (ten r) l,
-      back m n (rowWords r) (ten r) l (10 * (n + suc (length rs))) (omega arith),
+      front m n (rowWords r) (ten (wordsIn r)) l,
+      back m n (rowWords r) (ten (wordsIn r)) l (10 * (n + suc (length rs))) (omega arith),
       append-assoc (take (10 * n) m) (rowWords r) (wordsOf rs ++ drop (10 * (n + suc (length rs))) m),
     )
     (ap (λ (l : List ℕ). take (10 * n) m ++ l) (sym (append-assoc (rowWords r) (wordsOf rs) (drop (10 * (n + suc (length rs))) m))))

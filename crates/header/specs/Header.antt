@@ -10,14 +10,14 @@ use Rattle.parser.specs.All.{Commands, command, stop, finish, commands}
 use Rattle.text.specs.declared.Text.{Text}
 use Rattle.timescale.specs.declared.TimescaleUnit.{TimescaleUnit}
 use Rattle.token.specs.declared.Cursor.{Cursor}
-use Rattle.header.specs.Rows.{wordsOf}
+use Rattle.rows.specs.Rows.{wordsOf}
 use Rattle.header.specs.declared.Ended.{Ended}
 use Rattle.header.specs.declared.Header.{Header}
 use Rattle.header.specs.declared.HeaderAnswer.{HeaderAnswer}
 use Rattle.header.specs.declared.KeptText.{KeptText}
 use Rattle.header.specs.declared.KeptTimescale.{KeptTimescale}
-use Rattle.header.specs.declared.rows.Parent.{Parent}
-use Rattle.header.specs.declared.rows.Row.{Row}
+use Rattle.rows.specs.declared.Parent.{Parent}
+use Rattle.rows.specs.declared.Row.{Row}
 
 -- nothing kept, and a date, a version, a timescale kept
 abbrev pub nothing : Header
@@ -108,7 +108,3 @@ headerOf s c table = readRows (min 4096 (length table / 10)) (commands s c) [] 0
 
 abbrev pub answerOf : Outcome → HeaderAnswer
 answerOf o = record { cursor = o .cursor; count = length (o .rows); header = o .kept; ended = o .ended }
-
--- the table then: the rows' words, and the rest as it was
-abbrev pub filled : List Row → List ℕ → List ℕ
-filled rs table = wordsOf rs ++ drop (10 * length rs) table

@@ -10,21 +10,21 @@ use Rattle.command.specs.declared.Refusal.{Refusal}
 use Rattle.idcode.specs.declared.IdCode.{IdCode}
 use Rattle.parser.specs.All.{commands}
 use Rattle.parser.specs.Next.{nextFrom}
-use Rattle.parser.specs.declared.Next.{Next}
+use Rattle.parser_part.specs.declared.Next.{Next}
 use Rattle.scope.specs.declared.ReferenceIndex.{ReferenceIndex}
 use Rattle.scope.specs.declared.Var.{Var}
 use Rattle.scope.specs.declared.VarType.{VarType}
 use Rattle.text.specs.declared.Text.{Text}
 use Rattle.token.specs.declared.Cursor.{Cursor}
 use Rattle.header.specs.Header.{Outcome, inner, readRows, withDate, withVersion, withTimescale}
-use Rattle.header.specs.Rows.{put, rowWords}
+use Rattle.rows.specs.Rows.{put, rowWords}
 use Rattle.header.specs.declared.Ended.{Ended}
 use Rattle.header.specs.declared.Header.{Header}
 use Rattle.header.specs.declared.Item.{Item}
 use Rattle.header.specs.declared.Move.{Move}
 use Rattle.header.specs.declared.Part.{Part}
-use Rattle.header.specs.declared.rows.Parent.{Parent}
-use Rattle.header.specs.declared.rows.Row.{Row}
+use Rattle.rows.specs.declared.Parent.{Parent}
+use Rattle.rows.specs.declared.Row.{Row}
 
 -- ---- one command
 abbrev pub varOf : VarType → ℕ → IdCode → Text → ReferenceIndex → Var
@@ -152,7 +152,7 @@ Took s cap p levels c m n (Item.Other k d) m′ = (m′ ≡ m) × (nextFrom s c 
 Took s cap p levels c m n (Item.Refused e l d) m′ =
     (st : List ℕ) (h : Header) → Here levels p st → after m n (rest s cap c st n h) ≡ final h (Ended.Refused e l) d n m′
 
--- ---- some variables: the reading goes on behind them in the same scopes, with n′ rows in the table m′
+-- ---- some variables: the reading goes on after them in the same scopes, with n′ rows in the table m′
 abbrev pub Passes : List ℕ → ℕ → Parent → Cursor → List ℕ → ℕ → Cursor → ℕ → List ℕ → Type 0
 Passes s cap p c m n d n′ m′ =
     (n′ ≤ cap) × (length s - d .place ≤ length s - c .place)

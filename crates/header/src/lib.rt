@@ -1,42 +1,23 @@
 // The header of a dump (`parse_scope`, `parse_header` and the look-ups of vcd 0.7.0): each scope, variable and comment gives a row of
 // a lent table, in file order, with its parent; date, version and timescale are answered by value.
-mod find;
-mod rows;
-pub mod types;
-
-use brief::var::Variable;
 use command::Command;
 use command::Refusal;
-use idcode::IdCode;
+use fast_var::FastVar;
 use parser::Next;
-use scope::ReferenceIndex;
+use rows::LEVELS;
+use rows::MOST_ROWS;
+use rows::Parent;
+use rows::RowNumber;
 use scope::Var;
-use scope::VarType;
 use text::Text;
 use timescale::TimescaleUnit;
 use token::Cursor;
 ghost use mathlib.Core.Path.{_≡_};
 ghost use Prim.Native.Nat.{_/_, min, _*_, _≤_, _<_};
 ghost use lib.ListN.{length};
-ghost use Rattle.header.specs.Header.{headerOf, answerOf, filled, nothing as nothingKept};
-ghost use Rattle.header.specs.Level.{Took, Passes, Follows, itemOf, tableOf, varOf, closeOf, keepOf};
-pub use find::FoundRow;
-pub use find::find_scope;
-pub use find::find_var;
-pub use rows::Parent;
-pub use rows::Row;
-pub use rows::RowNumber;
-pub use rows::TOP;
-pub use rows::WORDS;
-pub use rows::all_zero;
-pub use rows::first_word;
-pub use rows::index_form;
-pub use rows::index_of;
-pub use rows::is_index;
-pub use rows::parent_word;
-pub use rows::row_at;
-pub use rows::row_of;
-pub use rows::second_word;
+ghost use Rattle.header.specs.Header.{headerOf, answerOf, nothing as nothingKept};
+ghost use Rattle.rows.specs.Rows.{filled};
+ghost use Rattle.header.specs.Level.{Took, Passes, Follows, itemOf, tableOf, closeOf, keepOf};
 
 // The last of a command's texts, or none.
 pub enum KeptText {
@@ -94,10 +75,6 @@ enum Move {
     On(Header),
     Ends(Ended),
 }
-
-const MOST_ROWS: usize = 4096;
-
-const LEVELS: usize = 64;
 
 // Reads the header that begins at the cursor.
 pub fn read_header(input: &[u8], c: Cursor, rows: &mut [u64]) -> HeaderAnswer
@@ -232,13 +209,13 @@ fn take_vars(
         return so_far(cur, n);
     }
     while n < cap {
-        match brief::var::look(input, cur.place) {
-            Variable::Is(v, end) => {
+        match fast_var::parse_var(input, cur.place) {
+            FastVar::Hit(v, end) => {
                 rows::put_var(rows, n, parent, v);
                 cur = token::word_read(cur, end, input[end]);
                 n += 1;
             }
-            Variable::Other => {
+            FastVar::Miss => {
                 return so_far(cur, n);
             }
         }
@@ -300,7 +277,14 @@ fn store_item(
             if cap <= n {
                 return Item::Refused(Refusal::TableFull, d.line, d);
             }
-            rows::put_var(rows, n, parent, variable(t, w, i, r, x));
+            let v = Var {
+                var_type: t,
+                size: w,
+                code: i,
+                reference: r,
+                index: x,
+            };
+            rows::put_var(rows, n, parent, v);
             Item::Leaf(d)
         }
         Command::Comment(t) => {
@@ -311,24 +295,6 @@ fn store_item(
             Item::Leaf(d)
         }
         _ => Item::Other(k, d),
-    }
-}
-
-fn variable(
-    var_type: VarType,
-    size: u32,
-    code: IdCode,
-    reference: Text,
-    index: ReferenceIndex,
-) -> Var
-    ensures { λ r. ⌜ r ≡ varOf «var_type» size code reference index ⌝ }
-{
-    Var {
-        var_type,
-        size,
-        code,
-        reference,
-        index,
     }
 }
 

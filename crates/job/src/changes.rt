@@ -1,7 +1,7 @@
 // The listing of every variable of a dump: reference, time, line, value.
 use command::Refusal;
-use header::Row;
 use listing::Ended;
+use rows::Row;
 use scope::Var;
 use token::Cursor;
 
@@ -37,7 +37,7 @@ fn list_rows(input: &[u8], c: Cursor, rows: &[u64], count: usize, out: &mut [u8]
     let mut met = Met::Nothing;
     let mut i: usize = 0;
     while i < count {
-        met = list_row(input, c, header::row_at(rows, i), &mut changes, out, met);
+        met = list_row(input, c, rows::row_at(rows, i), &mut changes, out, met);
         i += 1;
     }
     write_met(met, out);
@@ -79,13 +79,13 @@ fn list_var(input: &[u8], c: Cursor, v: Var, changes: &mut [u64], out: &mut [u8]
     let ended = a.ended;
     match ended {
         Ended::Whole => met,
-        Ended::Refused(e, line) => {
-            if e.number() == 24 {
+        Ended::Refused(e, line) => match e {
+            Refusal::ListFull => {
                 crate::write_placed(lines::put_full(name, out), out);
-                return met;
+                met
             }
-            Met::Refused(e, line)
-        }
+            _ => Met::Refused(e, line),
+        },
     }
 }
 

@@ -100,11 +100,14 @@ fn goes_on(r: Rewritten) -> Goes {
     let v = r.writer;
     match ended {
         rewrite::Ended::Whole => Goes::Whole,
-        rewrite::Ended::Refused(e, line) => {
-            if e.number() == 21 && 0 < r.count {
-                return Goes::On(d, v);
+        rewrite::Ended::Refused(e, line) => match e {
+            Refusal::NoRoom => {
+                if r.count == 0 {
+                    return Goes::Refused(e, line);
+                }
+                Goes::On(d, v)
             }
-            Goes::Refused(e, line)
-        }
+            _ => Goes::Refused(e, line),
+        },
     }
 }

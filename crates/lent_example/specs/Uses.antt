@@ -4,7 +4,7 @@ use mathlib.Core.Path.{_≡_}
 use mathlib.Core.List.{List}
 use lib.ListN.{replicate}
 use Rattle.command.specs.declared.Command.{Command}
-use Rattle.header.specs.declared.rows.Parent.{Parent}
+use Rattle.rows.specs.declared.Parent.{Parent}
 use Rattle.write.specs.Call.{Outcome, call}
 use Rattle.write.specs.Layout.{fresh}
 use Rattle.lent_writer.specs.Lent.{lentAnswer, lentState}

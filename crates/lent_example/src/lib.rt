@@ -1,10 +1,10 @@
 // How the lent forms are used: a state that two calls share, and rows that a call fills. The parameters of these functions are plain, so
 // that whoever calls them needs no walk by hand.
 use command::Command;
-use header::Parent;
 use lent_rows::HeaderRow;
 use lent_rows::ScopeItem;
 use lent_writer::Wrote;
+use rows::Parent;
 use scope::ScopeType;
 use text::Text;
 use token::Cursor;

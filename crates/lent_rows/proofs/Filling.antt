@@ -6,7 +6,7 @@ use native.Mathlib.Nat.{not-suc-le-zero, le-of-suc-le-suc}
 use native.Mathlib.Omega.{arith}
 use mathlib.Core.List.{List, [], _∷_, _++_}
 use lib.ListN.{length, set, drop}
-use Rattle.header.specs.Rows.{rowAt, rowsFrom}
+use Rattle.rows.specs.Rows.{rowAt, rowsFrom}
 use Rattle.lent_rows.specs.declared.HeaderRow.{HeaderRow}
 use Rattle.lent_rows.specs.Rows.{structOf, structs, fillRows}
 use Rattle.lent_rows.proofs.Counting.{below}

@@ -5,11 +5,11 @@ use native.Mathlib.Omega.{arith}
 use mathlib.Core.List.{List, [], _++_, append-assoc}
 use lib.ListN.{length, take, drop, length-replicate, take-append-drop}
 use lib.Seq.{length-take-le, drop-append-le}
-use Rattle.header.specs.Header.{Outcome, headerOf, readRows, nothing, answerOf, filled}
-use Rattle.header.specs.Rows.{wordsOf}
+use Rattle.header.specs.Header.{Outcome, headerOf, readRows, nothing, answerOf}
+use Rattle.rows.specs.Rows.{filled, wordsOf}
 use Rattle.header.specs.declared.HeaderAnswer.{HeaderAnswer}
-use Rattle.header.specs.declared.rows.Row.{Row}
-use Rattle.header.proofs.Fits.{filled-back}
+use Rattle.rows.specs.declared.Row.{Row}
+use Rattle.rows.proofs.Fits.{filled-back}
 use Rattle.header.proofs.Good.{header-room}
 use Rattle.header.proofs.Kept.{header-fits}
 use Rattle.parser.specs.All.{commands}
@@ -26,7 +26,7 @@ unfolding blank
 blank-length = length-replicate {A = ℕ} 40960 0
 
 module _ (s : List ℕ) (c : Cursor) where
-  -- the rows' words in a part of the table, and behind it the table as it was
+  -- the rows' words in a part of the table, and after it the table as it was
   pub whole : (flat : List ℕ) (k : ℕ) → let rs : List Row = headerOf s c (take k flat) .rows in filled rs (take k flat) ++ drop k flat ≡ filled rs flat
   whole flat k =
       let rs : List Row = headerOf s c (take k flat) .rows in

@@ -3,9 +3,9 @@ use Prim.Native.Nat.{ℕ, zero, suc, _+_, _*_, _/_, min}
 use mathlib.Core.List.{List, [], _∷_, _++_}
 use lib.ListN.{length, take, drop, replicate}
 use Rattle.header.specs.Header.{Outcome, headerOf, readRows, nothing}
-use Rattle.header.specs.Rows.{rowAt}
-use Rattle.header.specs.declared.rows.Parent.{Parent}
-use Rattle.header.specs.declared.rows.Row.{Row}
+use Rattle.rows.specs.Rows.{rowAt}
+use Rattle.rows.specs.declared.Parent.{Parent}
+use Rattle.rows.specs.declared.Row.{Row}
 use Rattle.parser.specs.All.{commands}
 use Rattle.token.specs.declared.Cursor.{Cursor}
 use Rattle.lent_rows.specs.declared.HeaderRow.{HeaderRow}

@@ -1,16 +1,15 @@
 // The header's rows as a lent slice of structs, filled in file order: a thin outer call over the reading into a flat table.
 use header::HeaderAnswer;
-use header::Parent;
-use header::Row;
+use rows::Parent;
+use rows::Row;
 use scope::ScopeType;
 use scope::Var;
 use text::Text;
 use token::Cursor;
 ghost use mathlib.Core.Path.{_≡_};
-ghost use Prim.Native.Nat.{min};
 ghost use lib.ListN.{length};
-ghost use Rattle.header.specs.Rows.{rowAt};
-ghost use Rattle.header.specs.Header.{answerOf, filled};
+ghost use Rattle.rows.specs.Rows.{rowAt, filled};
+ghost use Rattle.header.specs.Header.{answerOf};
 ghost use Rattle.lent_rows.specs.Rows.{structOf, fillRows, headerIn, headerInto, placed};
 
 // What stands in a row; nothing in one that was never filled.
@@ -27,14 +26,14 @@ pub struct HeaderRow {
     pub item: ScopeItem,
 }
 
-// Words of a flat table of 4,096 rows.
+// Words of a flat table of the most rows.
 const TABLE: usize = 40960;
 
 // Row `i` of a flat table, as a struct.
 fn struct_at(words: &[u64], i: usize) -> HeaderRow
     ensures { λ r. ⌜ r ≡ structOf (rowAt (now (words .entry)) i) ⌝ }
 {
-    match header::row_at(words, i) {
+    match rows::row_at(words, i) {
         Row::Scope(parent, t, name) => HeaderRow {
             parent,
             item: ScopeItem::Scope(t, name),
@@ -54,21 +53,11 @@ fn struct_at(words: &[u64], i: usize) -> HeaderRow
     }
 }
 
-// The lesser of two counts.
-fn least(a: usize, b: usize) -> usize
-    ensures { λ r. ⌜ r ≡ min a b ⌝ }
-{
-    if a < b {
-        return a;
-    }
-    b
-}
-
 // The first `n` rows, or as many as there are, from a flat table; the later ones stay.
 fn fill(words: &[u64], rows: &mut [HeaderRow], n: usize)
     ensures { λ _. ⌜ now (rows .exit) ≡ fillRows 0 n (now (words .entry)) (now (rows .entry)) ⌝ }
 {
-    let m = least(n, rows.len());
+    let m = text::least(n, rows.len());
     let mut k: usize = 0;
     while k < m {
         rows[k] = struct_at(words, k);
@@ -80,8 +69,8 @@ fn fill(words: &[u64], rows: &mut [HeaderRow], n: usize)
 fn read_flat(input: &[u8], c: Cursor, flat: &mut [u64], n: usize) -> HeaderAnswer
     ensures { λ r. ⌜ (r ≡ answerOf (headerInto (now (input .entry)) c (now (flat .entry)) n)) × (now (flat .exit) ≡ filled (headerInto (now (input .entry)) c (now (flat .entry)) n .rows) (now (flat .entry))) ⌝ }
 {
-    let room = least(n, flat.len() / header::WORDS);
-    header::read_header(input, c, &mut flat[..header::WORDS * room])
+    let room = text::least(n, flat.len() / rows::WORDS);
+    header::read_header(input, c, &mut flat[..rows::WORDS * room])
 }
 
 // Reads the header that begins at the cursor: as `read_header` with a table of as many rows, at most 4,096.

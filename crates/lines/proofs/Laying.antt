@@ -7,12 +7,12 @@ use native.Mathlib.Omega.{arith}
 use borrow.Author.Tests.{le-leb}
 use lib.Dec.{leb}
 use lib.ListN.{length, length-append, length-map, length-replicate}
-use Rattle.lay.specs.Put.{concat, stored}
-use Rattle.lay.proofs.Storing.{total-is, fits-yes, fits-no, runs, lay-none, lay-done}
-use Rattle.listing.specs.Widen.{missing, widened}
-use Rattle.listing.specs.declared.rows.Change.{Change}
-use Rattle.listing.specs.declared.rows.ChangeKind.{ChangeKind}
-use Rattle.listing.specs.declared.rows.Since.{Since}
+use Rattle.emit.specs.Put.{concat, stored}
+use Rattle.emit.proofs.Storing.{total-is, fits-yes, fits-no, runs, lay-none, lay-done}
+use Rattle.widen.specs.Widen.{missing, widened}
+use Rattle.listing.specs.declared.changes.Change.{Change}
+use Rattle.listing.specs.declared.changes.ChangeKind.{ChangeKind}
+use Rattle.listing.specs.declared.changes.Since.{Since}
 use Rattle.number.specs.Decimal.{decimalOf}
 use Rattle.text.specs.Bytes.{bytes}
 use Rattle.text.specs.Texts.{part, putAnswer, putBytes}
@@ -29,7 +29,7 @@ Laid t out r left = (r ≡ putAnswer t out) × (left ≡ putBytes t out)
 abbrev pub lineOf : List ℕ → List ℕ → List ℕ → List ℕ → List ℕ
 lineOf name time line value = concat (name ∷ bytes " " ∷ time ∷ bytes " " ∷ line ∷ bytes " " ∷ value ∷ bytes "\n" ∷ [])
 
--- a value in lower case behind so many zeros
+-- a value in lower case after so many zeros
 abbrev pub wide : ℕ → List ℕ → List ℕ
 wide zeros v = filledWith Value.V0 zeros ++ map lower v
 
@@ -60,7 +60,7 @@ module _ (name time line value : List ℕ) where
     pub laid-none : not r ≡ true → Laid (lineOf name time line value) out Placed.NoRoom out
     laid-none h = lay-none name rest out (omega (arith, fits-no (size zeros n) (length out) e h))
 
-    -- for the first part, and for the second behind it
+    -- for the first part, and for the second after it
     pub room : not r ≡ false → (length name + 1 + length time + 1 + length line ≤ length out) × (length (concat start) + (2 + zeros + n) ≤ length out)
     room h =
         let k = fits-yes (size zeros n) (length out) e h in

@@ -7,16 +7,16 @@ use native.Mathlib.Omega.{arith}
 use borrow.Author.Tests.{le-leb, lt-leb}
 use borrow.Rule.Slice.PartMut.{putMid}
 use lib.ListN.{length, take, drop, length-append}
-use Rattle.lay.specs.Put.{concat, stored}
-use Rattle.lay.proofs.Storing.{stored-none, stored-next, stored-length, part-put, part-none}
+use Rattle.emit.specs.Put.{concat, stored}
+use Rattle.emit.proofs.Storing.{stored-none, stored-next, stored-length, part-put, part-none}
 use Rattle.listing.specs.Rows.{changeAt}
-use Rattle.listing.specs.declared.rows.Change.{Change}
+use Rattle.listing.specs.declared.changes.Change.{Change}
 use Rattle.text.specs.declared.Placed.{Placed}
 use Rattle.lines.specs.Lines.{changeLine, linesFrom, fitting, put, answerOf, filled}
 use Rattle.lines.specs.declared.Lines.{Lines}
 use Rattle.lines.proofs.Laying.{Laid}
 
--- `ls` behind `count` bytes that are put
+-- `ls` after `count` bytes that are put
 abbrev ahead : ℕ → ℕ → List (List ℕ) → Lines
 ahead next count ls = record { next = next + length ls; count = count + length (concat ls) }
 

@@ -4,12 +4,12 @@ use mathlib.Core.Bool.{cond}
 use mathlib.Core.List.{List, [], _∷_, _++_}
 use lib.Dec.{leb}
 use lib.ListN.{length, drop}
-use Rattle.lay.specs.Put.{concat}
+use Rattle.emit.specs.Put.{concat}
 use Rattle.listing.specs.Rows.{changeAt}
-use Rattle.listing.specs.Widen.{widened}
-use Rattle.listing.specs.declared.rows.Change.{Change}
-use Rattle.listing.specs.declared.rows.ChangeKind.{ChangeKind}
-use Rattle.listing.specs.declared.rows.Since.{Since}
+use Rattle.widen.specs.Widen.{widened}
+use Rattle.listing.specs.declared.changes.Change.{Change}
+use Rattle.listing.specs.declared.changes.ChangeKind.{ChangeKind}
+use Rattle.listing.specs.declared.changes.Since.{Since}
 use Rattle.number.specs.Decimal.{decimalOf}
 use Rattle.text.specs.Bytes.{bytes}
 use Rattle.text.specs.Texts.{part}

@@ -10,8 +10,7 @@ ghost use mathlib.Core.List.{[], _∷_, _++_, map};
 ghost use Prim.Native.Nat.{_+_, _≤_};
 ghost use lib.Dec.{leb};
 ghost use lib.ListN.{length};
-ghost use Rattle.lay.specs.Put.{concat, stored};
-ghost use Rattle.listing.specs.Widen.{missing as missingOf};
+ghost use Rattle.emit.specs.Put.{concat, stored};
 ghost use Rattle.text.specs.Bytes.{bytes};
 ghost use Rattle.text.specs.Texts.{spelled, putAnswer, putBytes};
 ghost use Rattle.value.specs.Values.{lower, filledWith};
@@ -71,14 +70,14 @@ pub fn put_change(input: &[u8], name: &[u8], width: u32, change: Change, out: &m
             let time = t.bytes;
             let l = number::decimal(line);
             let digits = l.bytes;
-            let time = lay::front(&time, t.len);
-            let digits = lay::front(&digits, l.len);
+            let time = emit::front(&time, t.len);
+            let digits = emit::front(&digits, l.len);
             match kind {
                 ChangeKind::Scalar => lay_wide(
                     name,
                     time,
                     digits,
-                    missing(1, value.len()),
+                    widen::missing(1, value.len()),
                     value,
                     out,
                 ),
@@ -86,7 +85,7 @@ pub fn put_change(input: &[u8], name: &[u8], width: u32, change: Change, out: &m
                     name,
                     time,
                     digits,
-                    missing(width, value.len()),
+                    widen::missing(width, value.len()),
                     value,
                     out,
                 ),
@@ -106,25 +105,11 @@ fn time_text(since: Since) -> Spelled
     }
 }
 
-// How many zeros a vector of `len` values lacks at a width.
-fn missing(width: u32, len: usize) -> usize
-    ensures { λ r. ⌜ r ≡ missingOf width len ⌝ }
-{
-    let wide = width as usize;
-    if 1024 < wide {
-        return 0;
-    }
-    if wide < len {
-        return 0;
-    }
-    wide - len
-}
-
 // `NAME full`.
 pub fn put_full(name: &[u8], out: &mut [u8]) -> Placed
     ensures { λ r. ⌜ (r ≡ putAnswer (fullLine (now (name .entry))) (now (out .entry))) × (now (out .exit) ≡ putBytes (fullLine (now (name .entry))) (now (out .entry))) ⌝ }
 {
-    lay::lay(name, b" full\n", b"", b"", b"", out)
+    emit::emit(name, b" full\n", b"", b"", b"", out)
 }
 
 // `refused NUMBER at LINE`.
@@ -135,11 +120,11 @@ pub fn put_refused(number: u64, line: u64, out: &mut [u8]) -> Placed
     let first = n.bytes;
     let l = number::decimal(line);
     let second = l.bytes;
-    lay::lay(
+    emit::emit(
         b"refused ",
-        lay::front(&first, n.len),
+        emit::front(&first, n.len),
         b" at ",
-        lay::front(&second, l.len),
+        emit::front(&second, l.len),
         b"\n",
         out,
     )
@@ -159,11 +144,11 @@ fn lay_text(name: &[u8], time: &[u8], line: &[u8], value: &[u8], out: &mut [u8])
     ) {
         return Placed::NoRoom;
     }
-    let n = lay::put_five(out, 0, name, b" ", time, b" ", line);
-    Placed::Count(lay::put_five(out, n, b" ", value, b"\n", b"", b""))
+    let n = emit::put_five(out, 0, name, b" ", time, b" ", line);
+    Placed::Count(emit::put_five(out, n, b" ", value, b"\n", b"", b""))
 }
 
-// A line whose value is in lower case behind so many zeros.
+// A line whose value is in lower case after so many zeros.
 fn lay_wide(
     name: &[u8],
     time: &[u8],
@@ -184,7 +169,7 @@ fn lay_wide(
     ) {
         return Placed::NoRoom;
     }
-    let n = lay::put_five(out, 0, name, b" ", time, b" ", line);
+    let n = emit::put_five(out, 0, name, b" ", time, b" ", line);
     Placed::Count(put_wide(out, n, zeros, value))
 }
 
@@ -193,10 +178,10 @@ fn put_wide(out: &mut [u8], at: usize, zeros: usize, value: &[u8]) -> usize
     requires { ⌜ at + (2 + zeros + length (now value)) ≤ length (now out) ⌝ }
     ensures { λ r. ⌜ (r ≡ at + length (concat (bytes " " ∷ (filledWith Value.V0 zeros ++ map lower (now (value .entry))) ∷ bytes "\n" ∷ []))) × (now (out .exit) ≡ stored (now (out .entry)) at (concat (bytes " " ∷ (filledWith Value.V0 zeros ++ map lower (now (value .entry))) ∷ bytes "\n" ∷ []))) ⌝ }
 {
-    let n = lay::put(out, at, b" ");
+    let n = emit::put(out, at, b" ");
     let n = put_zeros(out, n, zeros);
-    let n = lay::put_lower(out, n, value);
-    lay::put(out, n, b"\n")
+    let n = emit::put_lower(out, n, value);
+    emit::put(out, n, b"\n")
 }
 
 // Whether a line has room: its five parts, three spaces and the newline.
@@ -206,10 +191,10 @@ fn has_room(room: usize, name: usize, time: usize, line: usize, zeros: usize, va
     if room < 4 {
         return false;
     }
-    lay::fits(room - 4, name, time, line, zeros, value)
+    emit::fits(room - 4, name, time, line, zeros, value)
 }
 
-// Puts so many zeros into `out` from `at` on, and answers the place behind them.
+// Puts so many zeros into `out` from `at` on, and answers the place after them.
 fn put_zeros(out: &mut [u8], at: usize, zeros: usize) -> usize
     requires { ⌜ at + zeros ≤ length (now out) ⌝ }
     ensures { λ r. ⌜ (r ≡ at + length (filledWith Value.V0 zeros)) × (now (out .exit) ≡ stored (now (out .entry)) at (filledWith Value.V0 zeros)) ⌝ }

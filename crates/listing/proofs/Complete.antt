@@ -13,17 +13,17 @@ use Rattle.command.specs.declared.Refusal.{Refusal}
 use Rattle.idcode.specs.declared.IdCode.{IdCode}
 use Rattle.parser.specs.All.{commands}
 use Rattle.parser.specs.Next.{nextFrom}
-use Rattle.parser.specs.declared.Next.{Next}
+use Rattle.parser_part.specs.declared.Next.{Next}
 use Rattle.text.proofs.Lists.{by-test}
 use Rattle.text.specs.declared.Text.{Text}
 use Rattle.token.specs.Read.{bit}
 use Rattle.token.specs.declared.Cursor.{Cursor}
-use Rattle.listing.specs.Listing.{Told, time, change, other, told, Entry, entries, sinceAfter, stopOf, lastOf, rowsIn, beyond, roomed, listOf, filled}
+use Rattle.listing.specs.Listing.{Role, time, change, other, roleOf, Entry, entries, sinceAfter, stopOf, lastOf, rowsIn, beyond, roomed, listOf, filled}
 use Rattle.listing.specs.Rows.{changeAt, wordsOf}
 use Rattle.listing.specs.declared.Ended.{Ended}
-use Rattle.listing.specs.declared.rows.Change.{Change}
-use Rattle.listing.specs.declared.rows.ChangeKind.{ChangeKind}
-use Rattle.listing.specs.declared.rows.Since.{Since}
+use Rattle.listing.specs.declared.changes.Change.{Change}
+use Rattle.listing.specs.declared.changes.ChangeKind.{ChangeKind}
+use Rattle.listing.specs.declared.changes.Since.{Since}
 use Rattle.listing.proofs.Listed.{ahead, ahead-first, ahead-refused, ahead-done, stop-step, last-step, stop-refused, stop-done, rows-join, froms, froms-join}
 use Rattle.listing.proofs.Table.{all-length, row-at}
 
@@ -68,7 +68,7 @@ module _ (s : List ℕ) (c : Cursor) (i : IdCode) (table : List ℕ) where
       let h : cap < length all = leb-false _ _ e in
       rw (incomplete h) (omega (arith, length-take cap (rowsIn all))))
 
-  -- row j of the table afterwards is the j-th of them, and the words behind them are as they were
+  -- row j of the table afterwards is the j-th of them, and the words after them are as they were
   pub row-is : (j : ℕ) → j < length (listOf s c i table .rows)
       → changeAt (filled (listOf s c i table .rows) table) j ≡ getD (listOf s c i table .rows) j Change.None
   row-is j h = row-at (listOf s c i table .rows) table j h
@@ -79,31 +79,31 @@ module _ (s : List ℕ) (c : Cursor) (i : IdCode) (table : List ℕ) where
       drop-at (wordsOf rs) (drop (6 * length rs) table) (6 * length rs) (all-length rs)
 
 -- ---- by the commands that were read: what they are to a listing, from one cursor to another
-abbrev pub Way : List ℕ → Cursor → List Told → Cursor → Type 0
+abbrev pub Way : List ℕ → Cursor → List Role → Cursor → Type 0
 Way s c [] e = c ≡ e
-Way s c (x ∷ xs) e = (k : Command) × (d : Cursor) × (nextFrom s c ≡ Next.Command k d) × (told s c k ≡ x) × Way s d xs e
+Way s c (x ∷ xs) e = (k : Command) × (d : Cursor) × (nextFrom s c ≡ Next.Command k d) × (roleOf s c k ≡ x) × Way s d xs e
 
 -- how many are changes of the code, and the last time among them
-abbrev isOf : IdCode → Told → ℕ
+abbrev isOf : IdCode → Role → ℕ
 isOf i (time u) = 0
 isOf i (change j k v) = bit (eqb (j .0) (i .0))
 isOf i other = 0
 
-abbrev pub countOf : IdCode → List Told → ℕ
+abbrev pub countOf : IdCode → List Role → ℕ
 countOf i [] = 0
 countOf i (x ∷ xs) = isOf i x + countOf i xs
 
-abbrev pub lastTime : Since → List Told → Since
+abbrev pub lastTime : Since → List Role → Since
 lastTime t [] = t
 lastTime t (x ∷ xs) = lastTime (sinceAfter t x) xs
 
-entries-count : (i : IdCode) (c : Cursor) (t : Since) (n : ℕ) (x : Told) → length (entries i c t n x) ≡ isOf i x
+entries-count : (i : IdCode) (c : Cursor) (t : Since) (n : ℕ) (x : Role) → length (entries i c t n x) ≡ isOf i x
 entries-count i c t n (time u) = refl
 entries-count i c t n (change j k v) = by-test (eqb (j .0) (i .0)) (λ e. rw e) (λ e. rw e)
 entries-count i c t n other = refl
 
 -- the entries of the commands on the way, and those ahead of its end
-way-ahead : (s : List ℕ) (i : IdCode) (c e : Cursor) (t : Since) (xs : List Told) → Way s c xs e
+way-ahead : (s : List ℕ) (i : IdCode) (c e : Cursor) (t : Since) (xs : List Role) → Way s c xs e
     → (made : List Entry) × (ahead s i c t ≡ made ++ ahead s i e (lastTime t xs)) × (length made ≡ countOf i xs)
 way-ahead s i c e t [] w = ([], ap (λ (x : Cursor). ahead s i x t) w, refl)
 way-ahead s i c e t (x ∷ xs) w =
@@ -116,19 +116,19 @@ way-ahead s i c e t (x ∷ xs) w =
       length-append here (r .0) ∙ rw (entries-count i c t (d .line) x, r .2),
     )
 
-way-stop : (s : List ℕ) (c e : Cursor) (xs : List Told) → Way s c xs e
+way-stop : (s : List ℕ) (c e : Cursor) (xs : List Role) → Way s c xs e
     → (stopOf (commands s c) ≡ stopOf (commands s e)) × (lastOf (commands s c) ≡ lastOf (commands s e))
 way-stop s c e [] w = (ap (λ (x : Cursor). stopOf (commands s x)) w, ap (λ (x : Cursor). lastOf (commands s x)) w)
 way-stop s c e (x ∷ xs) w =
     let r = way-stop s (w .1) e xs (w .4) in
     (stop-step s c (w .1) (w .0) (w .2) ∙ r .0, last-step s c (w .1) (w .0) (w .2) ∙ r .1)
 
-module _ (s : List ℕ) (i : IdCode) (c d : Cursor) (xs : List Told) (w : Way s c xs d) where
+module _ (s : List ℕ) (i : IdCode) (c d : Cursor) (xs : List Role) (w : Way s c xs d) where
   abbrev since : Since
   since = lastTime Since.None xs
 
-  -- the next command is a change of the code: its row stands behind those of the changes before it, with the last time among them
-  module _ (k : Command) (e : Cursor) (kind : ChangeKind) (v : Text) (q : nextFrom s d ≡ Next.Command k e) (r : told s d k ≡ change i kind v) where
+  -- the next command is a change of the code: its row stands after those of the changes before it, with the last time among them
+  module _ (k : Command) (e : Cursor) (kind : ChangeKind) (v : Text) (q : nextFrom s d ≡ Next.Command k e) (r : roleOf s d k ≡ change i kind v) where
     abbrev row : Change
     row = Change.Is since (e .line) kind v
 

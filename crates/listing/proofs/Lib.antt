@@ -1,6 +1,5 @@
 pub mod Table
-pub mod Seen
+pub mod Roles
 pub mod Listed
 pub mod Passing
 pub mod Complete
-pub mod Widening

@@ -13,40 +13,40 @@ use Rattle.command.specs.declared.Time.{Time}
 use Rattle.idcode.specs.declared.IdCode.{IdCode}
 use Rattle.parser.specs.All.{command, followed, commands}
 use Rattle.parser.specs.Next.{nextFrom}
-use Rattle.parser.specs.declared.Next.{Next}
+use Rattle.parser_part.specs.declared.Next.{Next}
 use Rattle.parser.proofs.Ahead.{command-past}
 use Rattle.parser.proofs.All.{commands-step}
 use Rattle.text.proofs.Lists.{by-test}
 use Rattle.text.specs.declared.Text.{Text}
 use Rattle.token.specs.Read.{Valid}
 use Rattle.token.specs.declared.Cursor.{Cursor}
-use Rattle.listing.specs.Listing.{Told, time, change, other, told, ofCode, Entry, entries, sinceAfter, changes, stopOf, lastOf, rowsIn, beyond, roomed, listOf, answerOf, filled, Passes}
+use Rattle.listing.specs.Listing.{Role, time, change, other, roleOf, ofCode, Entry, entries, sinceAfter, changes, stopOf, lastOf, rowsIn, beyond, roomed, listOf, answerOf, filled, Passes}
 use Rattle.listing.specs.Rows.{changeWords, wordsOf, put}
 use Rattle.listing.specs.declared.Ended.{Ended}
-use Rattle.listing.specs.declared.Told.{Told as Tells}
-use Rattle.listing.specs.declared.rows.Change.{Change}
-use Rattle.listing.specs.declared.rows.ChangeKind.{ChangeKind}
-use Rattle.listing.specs.declared.rows.Since.{Since}
-use Rattle.listing.proofs.Seen.{Read}
+use Rattle.listing.specs.declared.Seen.{Seen}
+use Rattle.listing.specs.declared.changes.Change.{Change}
+use Rattle.listing.specs.declared.changes.ChangeKind.{ChangeKind}
+use Rattle.listing.specs.declared.changes.Since.{Since}
+use Rattle.listing.proofs.Roles.{Read}
 use Rattle.listing.proofs.Table.{filled-length, put-next}
 
 -- ---- what a command gives, by what it is to the listing of a code
-abbrev gives : Cursor → Since → ℕ → Tells → List Entry
-gives c t n (Tells.Time u) = []
-gives c t n (Tells.Change k v) = record { row = Change.Is t n k v; from = c } ∷ []
-gives c t n Tells.Other = []
+abbrev gives : Cursor → Since → ℕ → Seen → List Entry
+gives c t n (Seen.Time u) = []
+gives c t n (Seen.Change k v) = record { row = Change.Is t n k v; from = c } ∷ []
+gives c t n Seen.Other = []
 
-abbrev pub later : Since → Tells → Since
-later t (Tells.Time u) = Since.Time u
-later t (Tells.Change k v) = t
-later t Tells.Other = t
+abbrev pub later : Since → Seen → Since
+later t (Seen.Time u) = Since.Time u
+later t (Seen.Change k v) = t
+later t Seen.Other = t
 
-entries-are : (i : IdCode) (c : Cursor) (t : Since) (n : ℕ) (x : Told) → entries i c t n x ≡ gives c t n (ofCode i x)
+entries-are : (i : IdCode) (c : Cursor) (t : Since) (n : ℕ) (x : Role) → entries i c t n x ≡ gives c t n (ofCode i x)
 entries-are i c t n (time u) = refl
 entries-are i c t n (change j k v) = by-test (eqb (j .0) (i .0)) (λ e. rw e) (λ e. rw e)
 entries-are i c t n other = refl
 
-later-is : (i : IdCode) (t : Since) (x : Told) → sinceAfter t x ≡ later t (ofCode i x)
+later-is : (i : IdCode) (t : Since) (x : Role) → sinceAfter t x ≡ later t (ofCode i x)
 later-is i t (time u) = refl
 later-is i t (change j k v) = by-test (eqb (j .0) (i .0)) (λ e. rw e) (λ e. rw e)
 later-is i t other = refl
@@ -59,13 +59,13 @@ read-as : (s : List ℕ) (c : Cursor) (x : Next) → nextFrom s c ≡ x → comm
 read-as s c x e = commands-step s c ∙ ap (followed (commands s)) e
 
 module _ (s : List ℕ) (c d : Cursor) (k : Command) (e : nextFrom s c ≡ Next.Command k d) where
-  pub ahead-first : (i : IdCode) (t : Since) → ahead s i c t ≡ entries i c t (d .line) (told s c k) ++ ahead s i d (sinceAfter t (told s c k))
+  pub ahead-first : (i : IdCode) (t : Since) → ahead s i c t ≡ entries i c t (d .line) (roleOf s c k) ++ ahead s i d (sinceAfter t (roleOf s c k))
   unfolding changes
   ahead-first i t = ap (changes s i c t) (read-as s c _ e)
 
-  ahead-step : (i : IdCode) (t : Since) (r : Tells) → ofCode i (told s c k) ≡ r
+  ahead-step : (i : IdCode) (t : Since) (r : Seen) → ofCode i (roleOf s c k) ≡ r
       → ahead s i c t ≡ gives c t (d .line) r ++ ahead s i d (later t r)
-  ahead-step i t r q = ahead-first i t ∙ rw (entries-are i c t (d .line) (told s c k), later-is i t (told s c k), q)
+  ahead-step i t r q = ahead-first i t ∙ rw (entries-are i c t (d .line) (roleOf s c k), later-is i t (roleOf s c k), q)
 
   pub stop-step : stopOf (commands s c) ≡ stopOf (commands s d)
   unfolding stopOf
@@ -98,7 +98,7 @@ module _ (s : List ℕ) (i : IdCode) where
   pub passes-start : (c : Cursor) (t : Since) → Valid s c → Passes s i c t c t
   passes-start c t v = record { same = refl; stops = refl; last = refl; valid = v; past = omega arith }
 
-  pub passes-read : (c d : Cursor) (t : Since) (r : Tells) → Read s i c d r → gives c t (d .line) r ≡ [] → Passes s i c t d (later t r)
+  pub passes-read : (c d : Cursor) (t : Since) (r : Seen) → Read s i c d r → gives c t (d .line) r ≡ [] → Passes s i c t d (later t r)
   passes-read c d t r h g =
       let f = command-past s c (h .command) d (h .next) .0 in
       record {
@@ -157,7 +157,7 @@ module _ (s : List ℕ) (i : IdCode) (c₀ : Cursor) (t₀ table : List ℕ) (c 
       }
 
   -- a change of the code
-  module _ (d : Cursor) (kind : ChangeKind) (v : Text) (h : Read s i c d (Tells.Change kind v)) where
+  module _ (d : Cursor) (kind : ChangeKind) (v : Text) (h : Read s i c d (Seen.Change kind v)) where
     abbrev row : Change
     row = Change.Is t (d .line) kind v
 
@@ -201,7 +201,7 @@ module _ (s : List ℕ) (i : IdCode) (c₀ : Cursor) (t₀ table : List ℕ) (c 
       → (record { cursor = d; count = n; ended = e } ≡ answerOf (listOf s c₀ i t₀)) × (table ≡ filled (listOf s c₀ i t₀ .rows) t₀)
   ends-as e d o = rw o (rw rows-count, l .stored)
 
-  pub listed-full : (d : Cursor) (kind : ChangeKind) (v : Text) → Read s i c d (Tells.Change kind v) → length t₀ / 6 ≤ n
+  pub listed-full : (d : Cursor) (kind : ChangeKind) (v : Text) → Read s i c d (Seen.Change kind v) → length t₀ / 6 ≤ n
       → (record { cursor = c; count = n; ended = Ended.Refused Refusal.ListFull (c .line) } ≡ answerOf (listOf s c₀ i t₀))
       × (table ≡ filled (listOf s c₀ i t₀ .rows) t₀)
   listed-full d kind v h full = ends-as _ _ (full-is d kind v h full)

@@ -6,23 +6,24 @@ use mathlib.Core.List.{List}
 use native.Mathlib.Omega.{arith}
 use borrow.Author.Tests.{ne-eqb}
 use lib.ListN.{length, getD}
-use Rattle.brief.specs.Brief.{Reads, ReadsScalar}
+use Rattle.fast.specs.Fast.{Reads, ReadsScalar}
 use Rattle.command.specs.declared.Command.{Command}
 use Rattle.command.specs.declared.Open.{Open}
 use Rattle.idcode.specs.declared.IdCode.{IdCode}
 use Rattle.parser.specs.Next.{nextFrom}
-use Rattle.parser.specs.declared.Next.{Next}
+use Rattle.parser_part.specs.declared.Next.{Next}
 use Rattle.token.specs.Flat.{wordRead}
 use Rattle.token.specs.Read.{Valid}
 use Rattle.token.specs.declared.Cursor.{Cursor}
 use Rattle.listing.specs.Listing.{Passes, Held}
 use Rattle.listing.specs.declared.Stand.{Stand}
-use Rattle.listing.specs.declared.Told.{Told as Tells}
-use Rattle.listing.specs.declared.rows.Since.{Since}
-use Rattle.listing.proofs.Seen.{Read}
+use Rattle.listing.specs.declared.Seen.{Seen}
+use Rattle.listing.specs.declared.changes.Since.{Since}
+use Rattle.listing.proofs.Roles.{Read}
 use Rattle.listing.proofs.Listed.{passes-start, passes-read, passes-on}
+use Rattle.text.specs.Texts.{limit}
 
--- ---- from c, where t was the last time, to d; the last time then stands at `at`, and as many as n looks have room
+-- ---- from c, where t was the last time, to d; the last time then stands at `at`, and there is room for n short commands
 pub record Running (s : List ℕ) (i : IdCode) (c : Cursor) (t : Since) (d : Cursor) (at n : ℕ) : Type 0 where
   pub since : Since
   pub passes : Passes s i c t d since
@@ -43,13 +44,13 @@ module _ (s : List ℕ) (i : IdCode) (c : Cursor) (t : Since) where
 
   -- what `so_far` asks and gives
   module _ (d : Cursor) (at n : ℕ) (r : Running s i c t d at n) where
-    pub running-asks : (length s ≤ 4294967295) × (at < length s → at + 34 ≤ length s)
+    pub running-asks : (length s ≤ limit) × (at < length s → at + 34 ≤ length s)
     running-asks = (r .passes .valid .short, r .long)
 
     pub running-ends : (x : Stand) → (x .cursor ≡ d) × ((u : Since) → Held s t at u → x .since ≡ u) → Passes s i c t (x .cursor) (x .since)
     running-ends x h = rw (h .0, h .1 (r .since) (r .held)) (r .passes)
 
-  -- a look that tells of a time, or of another code's scalar
+  -- a hit: a time, or another code's scalar
   module _ (d : Cursor) (at n m e : ℕ) (r : Running s i c t d at n) (less : m < n) (near : e < d .place + 34) where
     abbrev next : Cursor
     next = wordRead d e (getD s e 0)
@@ -60,7 +61,7 @@ module _ (s : List ℕ) (i : IdCode) (c : Cursor) (t : Since) where
 
     pub running-time : (v : ℕ) → Reads s (d .place) e (Command.Timestamp (record { 0 = v })) → Running s i c t next (d .place) m
     running-time v k =
-        let h : Read s i d next (Tells.Time (record { 0 = v })) =
+        let h : Read s i d next (Seen.Time (record { 0 = v })) =
         record { command = _; next = k .reads d (r .passes .valid) refl; tells = refl } in
         record {
           since = Since.Time (record { 0 = v });
@@ -72,7 +73,7 @@ module _ (s : List ℕ) (i : IdCode) (c : Cursor) (t : Since) where
 
     pub running-other : (j : ℕ) → ReadsScalar s (d .place) e j → (j ≡ i .0 → ⊥) → Running s i c t next at m
     running-other j k ne =
-        let h : Read s i d next Tells.Other =
+        let h : Read s i d next Seen.Other =
         record { command = _; next = k .change .reads d (r .passes .valid) refl; tells = rw (ne-eqb j (i .0) ne) } in
         record {
           since = r .since;
@@ -86,7 +87,7 @@ module _ (s : List ℕ) (i : IdCode) (c : Cursor) (t : Since) where
 abbrev pub there : ℕ → Cursor
 there at = record { place = at; line = 1; pending = false; sim = Open.None }
 
-module _ (s : List ℕ) (at e : ℕ) (k : Command) (r : Reads s at e k) (short : length s ≤ 4294967295) where
+module _ (s : List ℕ) (at e : ℕ) (k : Command) (r : Reads s at e k) (short : length s ≤ limit) where
   pub reads-there : nextFrom s (there at) ≡ Next.Command k (wordRead (there at) e (getD s e 0))
   reads-there =
       let v : Valid s (there at) =

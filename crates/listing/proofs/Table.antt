@@ -1,4 +1,4 @@
--- Laws of rows: how many words they are, a row stored behind the others, and the row that stored words are.
+-- Laws of rows: how many words they are, a row stored after the others, and the row that stored words are.
 use Prim.Native.Nat.{ℕ, zero, suc, _+_, _*_, _/_, _≤_, _<_}
 use mathlib.Core.Path.{_≡_, refl, sym, ap, _∙_}
 use mathlib.Core.List.{List, [], _∷_, _++_, append-assoc}
@@ -8,9 +8,9 @@ use lib.ListN.{length, getD, take, drop, length-append, length-drop, List·getD-
 use lib.Seq.{take-at, drop-append-add, drop-drop, getD-append-add, paste, take-length}
 use Rattle.listing.specs.Rows.{kindOf, isSince, sinceOf, changeWords, changeOf, changeAt, wordsOf, put}
 use Rattle.listing.specs.Listing.{filled}
-use Rattle.listing.specs.declared.rows.Change.{Change}
-use Rattle.listing.specs.declared.rows.ChangeKind.{ChangeKind}
-use Rattle.listing.specs.declared.rows.Since.{Since}
+use Rattle.listing.specs.declared.changes.Change.{Change}
+use Rattle.listing.specs.declared.changes.ChangeKind.{ChangeKind}
+use Rattle.listing.specs.declared.changes.Since.{Since}
 
 -- six words each
 pub words-length : (r : Change) → length (changeWords r) ≡ 6
@@ -32,7 +32,7 @@ words-join (r ∷ x) y =
 pub filled-length : (rs : List Change) (t : List ℕ) → 6 * length rs ≤ length t → length (filled rs t) ≡ length t
 filled-length rs t h = omega (arith, length-append (wordsOf rs) (drop (6 * length rs) t), all-length rs, length-drop (6 * length rs) t)
 
--- the row behind those that are there
+-- the row after those that are there
 pub put-next : (rs : List Change) (r : Change) (t : List ℕ) (n : ℕ) → length rs ≡ n
     → put (filled rs t) n (changeWords r) ≡ filled (rs ++ (r ∷ [])) t
 unfolding put wordsOf

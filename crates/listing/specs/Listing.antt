@@ -11,64 +11,64 @@ use Rattle.command.specs.declared.Refusal.{Refusal}
 use Rattle.command.specs.declared.Time.{Time}
 use Rattle.idcode.specs.declared.IdCode.{IdCode}
 use Rattle.parser.specs.All.{Commands, command, stop, finish, commands}
-use Rattle.parser.specs.declared.Next.{Next}
+use Rattle.parser_part.specs.declared.Next.{Next}
 use Rattle.text.specs.declared.Text.{Text}
-use Rattle.brief.specs.Brief.{Reads}
+use Rattle.fast.specs.Fast.{Reads}
 use Rattle.token.specs.Read.{skipped, Valid}
 use Rattle.token.specs.declared.Cursor.{Cursor}
 use Rattle.listing.specs.Rows.{wordsOf}
 use Rattle.listing.specs.declared.Ended.{Ended}
 use Rattle.listing.specs.declared.ListAnswer.{ListAnswer}
-use Rattle.listing.specs.declared.Look.{Look}
-use Rattle.listing.specs.declared.Told.{Told as Tells}
-use Rattle.listing.specs.declared.rows.Change.{Change}
-use Rattle.listing.specs.declared.rows.ChangeKind.{ChangeKind}
-use Rattle.listing.specs.declared.rows.Since.{Since}
+use Rattle.listing.specs.declared.Step.{Step}
+use Rattle.listing.specs.declared.Seen.{Seen}
+use Rattle.listing.specs.declared.changes.Change.{Change}
+use Rattle.listing.specs.declared.changes.ChangeKind.{ChangeKind}
+use Rattle.listing.specs.declared.changes.Since.{Since}
 
 -- what a command is to a listing: a time, a change with the kind and the place of its value, or nothing
-pub data Told : Type 0 where
-  time : Time → Told
-  change : IdCode → ChangeKind → Text → Told
-  other : Told
+pub data Role : Type 0 where
+  time : Time → Role
+  change : IdCode → ChangeKind → Text → Role
+  other : Role
 
--- a scalar's value is the command's first byte, behind the blanks that it was read over
+-- a scalar's value is the command's first byte, after the blanks that it was read over
 abbrev pub first : List ℕ → Cursor → Text
 first s c = record { start = skipped s c .place; len = 1 }
 
 -- the command k, read from c
-abbrev pub told : List ℕ → Cursor → Command → Told
-told s c (Command.Comment t) = other
-told s c (Command.Date t) = other
-told s c (Command.Version t) = other
-told s c (Command.Timescale n u) = other
-told s c (Command.ScopeDef k t) = other
-told s c Command.Upscope = other
-told s c (Command.VarDef k n i t x) = other
-told s c Command.Enddefinitions = other
-told s c (Command.Timestamp t) = time t
-told s c (Command.ChangeScalar i v) = change i ChangeKind.Scalar (first s c)
-told s c (Command.ChangeVector i t) = change i ChangeKind.Vector t
-told s c (Command.ChangeReal i t) = change i ChangeKind.Real t
-told s c (Command.ChangeString i t) = change i ChangeKind.String t
-told s c (Command.Begin k) = other
-told s c (Command.End k) = other
+abbrev pub roleOf : List ℕ → Cursor → Command → Role
+roleOf s c (Command.Comment t) = other
+roleOf s c (Command.Date t) = other
+roleOf s c (Command.Version t) = other
+roleOf s c (Command.Timescale n u) = other
+roleOf s c (Command.ScopeDef k t) = other
+roleOf s c Command.Upscope = other
+roleOf s c (Command.VarDef k n i t x) = other
+roleOf s c Command.Enddefinitions = other
+roleOf s c (Command.Timestamp t) = time t
+roleOf s c (Command.ChangeScalar i v) = change i ChangeKind.Scalar (first s c)
+roleOf s c (Command.ChangeVector i t) = change i ChangeKind.Vector t
+roleOf s c (Command.ChangeReal i t) = change i ChangeKind.Real t
+roleOf s c (Command.ChangeString i t) = change i ChangeKind.String t
+roleOf s c (Command.Begin k) = other
+roleOf s c (Command.End k) = other
 
 -- the same to the listing of the code i
-abbrev pub ofCode : IdCode → Told → Tells
-ofCode i (time u) = Tells.Time u
-ofCode i (change j k v) = cond (eqb (j .0) (i .0)) (Tells.Change k v) Tells.Other
-ofCode i other = Tells.Other
+abbrev pub ofCode : IdCode → Role → Seen
+ofCode i (time u) = Seen.Time u
+ofCode i (change j k v) = cond (eqb (j .0) (i .0)) (Seen.Change k v) Seen.Other
+ofCode i other = Seen.Other
 
--- what it sees next, with the cursor d behind it
-abbrev pub behind : Tells → Cursor → Look
-behind (Tells.Time u) d = Look.Time d u
-behind (Tells.Change k v) d = Look.Change d k v
-behind Tells.Other d = Look.Other d
+-- what it sees next, with the cursor d after it
+abbrev pub stepOf : Seen → Cursor → Step
+stepOf (Seen.Time u) d = Step.Time d u
+stepOf (Seen.Change k v) d = Step.Change d k v
+stepOf Seen.Other d = Step.Other d
 
-abbrev pub seen : List ℕ → IdCode → Cursor → Next → Look
-seen s i c (Next.Command k d) = behind (ofCode i (told s c k)) d
-seen s i c (Next.Refused e n d) = Look.Refused d e n
-seen s i c (Next.Done d) = Look.Done d
+abbrev pub stepFrom : List ℕ → IdCode → Cursor → Next → Step
+stepFrom s i c (Next.Command k d) = stepOf (ofCode i (roleOf s c k)) d
+stepFrom s i c (Next.Refused e n d) = Step.Refused d e n
+stepFrom s i c (Next.Done d) = Step.Done d
 
 -- a change, and the cursor as it stood before it
 pub record Entry : Type 0 where
@@ -76,19 +76,19 @@ pub record Entry : Type 0 where
   pub from : Cursor
 
 -- the entries that a command gives: one, if it is a change of the code; and the last time after it
-abbrev pub entries : IdCode → Cursor → Since → ℕ → Told → List Entry
+abbrev pub entries : IdCode → Cursor → Since → ℕ → Role → List Entry
 entries i c t line (time u) = []
 entries i c t line (change j k v) = cond (eqb (j .0) (i .0)) (record { row = Change.Is t line k v; from = c } ∷ []) []
 entries i c t line other = []
 
-abbrev pub sinceAfter : Since → Told → Since
+abbrev pub sinceAfter : Since → Role → Since
 sinceAfter t (time u) = Since.Time u
 sinceAfter t (change j k v) = t
 sinceAfter t other = t
 
 -- every change of the code i: the line is the reader's just after it
 unfoldable pub changes : List ℕ → IdCode → Cursor → Since → Commands → List Entry
-changes s i c t (command k d more) = entries i c t (d .line) (told s c k) ++ changes s i d (sinceAfter t (told s c k)) more
+changes s i c t (command k d more) = entries i c t (d .line) (roleOf s c k) ++ changes s i d (sinceAfter t (roleOf s c k)) more
 changes s i c t (stop e n d) = []
 changes s i c t (finish d) = []
 

@@ -1,12 +1,11 @@
-// The listing of a code's changes into lent rows, and vectors widened for printing. Additions to what vcd 0.7.0 has.
-mod rows;
-mod width;
+// The listing of a code's changes into lent rows: an addition to what vcd 0.7.0 has.
+mod changes;
 
-use brief::Brief;
 use command::Command;
 use command::Open;
 use command::Refusal;
 use command::Time;
+use fast::Fast;
 use idcode::IdCode;
 use parser::Next;
 use text::Text;
@@ -14,19 +13,18 @@ use token::Cursor;
 ghost use mathlib.Core.Path.{_≡_};
 ghost use lib.ListN.{length};
 ghost use Prim.Native.Nat.{ℕ, _+_, _≤_, _<_};
-ghost use Rattle.listing.specs.Listing.{listOf, answerOf, filled, change, told, ofCode, seen, behind, first as firstOf, Passes, Held};
-ghost use Rattle.brief.specs.Brief.{Tells, Reads};
+ghost use Rattle.listing.specs.Listing.{listOf, answerOf, filled, change, roleOf, ofCode, stepFrom, stepOf, first as firstOf, Passes, Held};
+ghost use Rattle.fast.specs.Fast.{Hits, Reads};
 ghost use Rattle.command.specs.declared.Command.{Command};
-ghost use Rattle.listing.specs.declared.rows.Since.{Since};
+ghost use Rattle.listing.specs.declared.changes.Since.{Since};
 ghost use Rattle.parser.specs.Next.{nextFrom};
 ghost use Rattle.token.specs.Read.{Valid};
-pub use rows::Change;
-pub use rows::ChangeKind;
-pub use rows::Since;
-pub use rows::WORDS;
-pub use rows::change_at;
-pub use width::Widened;
-pub use width::widen;
+ghost use Rattle.text.specs.Texts.{limit};
+pub use changes::Change;
+pub use changes::ChangeKind;
+pub use changes::Since;
+pub use changes::WORDS;
+pub use changes::change_at;
 
 // How a listing ended: at the end of the input, or by a refusal and the line of it.
 pub enum Ended {
@@ -48,34 +46,34 @@ pub fn list(input: &[u8], c: Cursor, code: IdCode, rows: &mut [u64]) -> ListAnsw
     if !parser::placed(input, c) {
         return answer(c, 0, Ended::Refused(Refusal::BadPlace, c.line));
     }
-    let cap = rows.len() / rows::WORDS;
+    let cap = rows.len() / changes::WORDS;
     let mut cur = c;
     let mut n: usize = 0;
     let mut since = Since::None;
     loop {
-        let ran = run(input, cur, since, code);
+        let ran = fast_run(input, cur, since, code);
         cur = ran.cursor;
         since = ran.since;
-        match look_quick(input, cur, code) {
-            Look::Time(d, t) => {
+        match step_fast(input, cur, code) {
+            Step::Time(d, t) => {
                 since = Since::Time(t);
                 cur = d;
             }
-            Look::Change(d, kind, v) => {
+            Step::Change(d, kind, v) => {
                 if cap <= n {
                     return full(cur, n);
                 }
-                rows::put_change(rows, n, since, d.line, kind, v);
+                changes::put_change(rows, n, since, d.line, kind, v);
                 n += 1;
                 cur = d;
             }
-            Look::Other(d) => {
+            Step::Other(d) => {
                 cur = d;
             }
-            Look::Refused(d, e, line) => {
+            Step::Refused(d, e, line) => {
                 return answer(d, n, Ended::Refused(e, line));
             }
-            Look::Done(d) => {
+            Step::Done(d) => {
                 return answer(d, n, Ended::Whole);
             }
         }
@@ -89,22 +87,22 @@ struct Stand {
 }
 
 // Passes the most usual commands that are no changes of the code. Of times only the place of the last is kept.
-fn run(input: &[u8], c: Cursor, before: Since, code: IdCode) -> Stand
+fn fast_run(input: &[u8], c: Cursor, before: Since, code: IdCode) -> Stand
     requires { ⌜ Valid (now input) c ⌝ }
     ensures { λ r. ⌜ Passes (now (input .entry)) code c before (r .cursor) (r .since) ⌝ }
 {
-    let most = brief::most(input.len(), c.place, input.len());
+    let most = fast::short_commands(input.len(), c.place, input.len());
     let mut cur = c;
     let mut last = input.len();
     let mut n: usize = 0;
     while n < most {
         let at = cur.place;
-        match brief::near(input, at) {
-            Brief::Time(_, end) => {
+        match fast::parse_short(input, at) {
+            Fast::Time(_, end) => {
                 last = at;
                 cur = token::word_read(cur, end, input[end]);
             }
-            Brief::Scalar(i, end) => {
+            Fast::Scalar(i, end) => {
                 if i == code.0 {
                     return so_far(input, cur, last, before);
                 }
@@ -121,7 +119,7 @@ fn run(input: &[u8], c: Cursor, before: Since, code: IdCode) -> Stand
 
 // The run whose last time stands at `last`; at the end of the input where it passed none.
 fn so_far(input: &[u8], cursor: Cursor, last: usize, before: Since) -> Stand
-    requires { ⌜ (length (now input) ≤ 4294967295) × (last < length (now input) → last + 34 ≤ length (now input)) ⌝ }
+    requires { ⌜ (length (now input) ≤ limit) × (last < length (now input) → last + 34 ≤ length (now input)) ⌝ }
     ensures { λ r. ⌜ (r .cursor ≡ cursor) × ((u : Since) → Held (now (input .entry)) before last u → r .since ≡ u) ⌝ }
 {
     if input.len() <= last {
@@ -138,18 +136,18 @@ fn so_far(input: &[u8], cursor: Cursor, last: usize, before: Since) -> Stand
 
 // The timestamp that stands at a place.
 fn time_at(input: &[u8], at: usize) -> Since
-    requires { ⌜ (length (now input) ≤ 4294967295) × (at + 34 ≤ length (now input)) ⌝ }
+    requires { ⌜ (length (now input) ≤ limit) × (at + 34 ≤ length (now input)) ⌝ }
     ensures { λ r. ⌜ ((v e : ℕ) → Reads (now (input .entry)) at e (Command.Timestamp (record { 0 = v })) → r ≡ Since.Time (record { 0 = v })) ⌝ }
 {
-    match brief::near(input, at) {
-        Brief::Time(t, _) => Since::Time(Time(t)),
+    match fast::parse_short(input, at) {
+        Fast::Time(t, _) => Since::Time(Time(t)),
         _ => time_read(input, at),
     }
 }
 
-// The same by the plain way.
+// The timestamp that stands at a place, by the slow path.
 fn time_read(input: &[u8], at: usize) -> Since
-    requires { ⌜ (length (now input) ≤ 4294967295) × (at ≤ length (now input)) ⌝ }
+    requires { ⌜ (length (now input) ≤ limit) × (at ≤ length (now input)) ⌝ }
     ensures { λ r. ⌜ ((v e : ℕ) → Reads (now (input .entry)) at e (Command.Timestamp (record { 0 = v })) → r ≡ Since.Time (record { 0 = v })) ⌝ }
 {
     let c = Cursor {
@@ -167,8 +165,8 @@ fn time_read(input: &[u8], at: usize) -> Since
     }
 }
 
-// What the listing of a code sees next, with the cursor behind it: a time, a change of the code, another command; or how reading ends.
-enum Look {
+// What the listing of a code sees next, with the cursor after it: a time, a change of the code, another command; or how reading ends.
+enum Step {
     Time(Cursor, Time),
     Change(Cursor, ChangeKind, Text),
     Other(Cursor),
@@ -176,37 +174,37 @@ enum Look {
     Done(Cursor),
 }
 
-// A quick look at the command that stands at a place. Each loop has its own, so that the compiler keeps it in the loop.
-fn glance(input: &[u8], at: usize) -> Brief
+// The fast path for the command that stands at a place. Each loop has its own, so that the compiler keeps it in the loop.
+fn fast_command(input: &[u8], at: usize) -> Fast
     requires { ⌜ at ≤ length (now input) ⌝ }
-    requires { ⌜ length (now input) ≤ 4294967295 ⌝ }
-    ensures { λ r. ⌜ Tells (now (input .entry)) at r ⌝ }
+    requires { ⌜ length (now input) ≤ limit ⌝ }
+    ensures { λ r. ⌜ Hits (now (input .entry)) at r ⌝ }
 {
     if input.len() <= at + 2 {
-        return Brief::Other;
+        return Fast::Miss;
     }
     let b = input[at];
     if b / 2 == 24 {
-        return brief::scalar(input, at);
+        return fast::parse_scalar(input, at);
     }
     match b {
-        b'#' => brief::time(input, at),
-        b'x' | b'X' | b'z' | b'Z' => brief::scalar(input, at),
-        b'b' | b'B' => brief::vector(&input[0..], at),
-        _ => Brief::Other,
+        b'#' => fast::parse_timestamp(input, at),
+        b'x' | b'X' | b'z' | b'Z' => fast::parse_scalar(input, at),
+        b'b' | b'B' => fast::parse_vector(&input[0..], at),
+        _ => Fast::Miss,
     }
 }
 
-// The usual commands are told by a quick look.
-fn look_quick(input: &[u8], c: Cursor, code: IdCode) -> Look
+// The next step: usual commands hit the fast path, others take the slow path.
+fn step_fast(input: &[u8], c: Cursor, code: IdCode) -> Step
     requires { ⌜ Valid (now input) c ⌝ }
-    ensures { λ r. ⌜ r ≡ seen (now (input .entry)) code c (nextFrom (now (input .entry)) c) ⌝ }
+    ensures { λ r. ⌜ r ≡ stepFrom (now (input .entry)) code c (nextFrom (now (input .entry)) c) ⌝ }
 {
     let at = c.place;
-    match glance(input, at) {
-        Brief::Time(t, end) => Look::Time(token::word_read(c, end, input[end]), Time(t)),
-        Brief::Scalar(i, end) => look_value(
-            tell_value(
+    match fast_command(input, at) {
+        Fast::Time(t, end) => Step::Time(token::word_read(c, end, input[end]), Time(t)),
+        Fast::Scalar(i, end) => step_of(
+            seen_change(
                 IdCode(i),
                 code,
                 ChangeKind::Scalar,
@@ -214,8 +212,8 @@ fn look_quick(input: &[u8], c: Cursor, code: IdCode) -> Look
             ),
             token::word_read(c, end, input[end]),
         ),
-        Brief::Vector(i, stop, end) => look_value(
-            tell_value(
+        Fast::Vector(i, stop, end) => step_of(
+            seen_change(
                 IdCode(i),
                 code,
                 ChangeKind::Vector,
@@ -226,11 +224,11 @@ fn look_quick(input: &[u8], c: Cursor, code: IdCode) -> Look
             ),
             token::word_read(c, end, input[end]),
         ),
-        Brief::Other => look_plain(&input[0..], again(c), code),
+        Fast::Miss => step_slow(&input[0..], again(c), code),
     }
 }
 
-// The same cursor, made anew: the quick way keeps its own in registers.
+// A cursor made anew for the slow path, so that the fast path keeps its own in registers.
 fn again(c: Cursor) -> Cursor
     ensures { λ r. ⌜ r ≡ c ⌝ }
 {
@@ -243,79 +241,79 @@ fn again(c: Cursor) -> Cursor
     }
 }
 
-fn look_plain(input: &[u8], c: Cursor, code: IdCode) -> Look
+fn step_slow(input: &[u8], c: Cursor, code: IdCode) -> Step
     requires { ⌜ Valid (now input) c ⌝ }
-    ensures { λ r. ⌜ r ≡ seen (now (input .entry)) code c (nextFrom (now (input .entry)) c) ⌝ }
+    ensures { λ r. ⌜ r ≡ stepFrom (now (input .entry)) code c (nextFrom (now (input .entry)) c) ⌝ }
 {
     match parser::next_command(input, c) {
-        Next::Command(k, d) => look_value(tell(input, c, k, code), d),
-        Next::Refused(e, line, d) => Look::Refused(d, e, line),
-        Next::Done(d) => Look::Done(d),
+        Next::Command(k, d) => step_of(seen_command(input, c, k, code), d),
+        Next::Refused(e, line, d) => Step::Refused(d, e, line),
+        Next::Done(d) => Step::Done(d),
     }
 }
 
-fn look_value(t: Told, d: Cursor) -> Look
-    ensures { λ r. ⌜ r ≡ behind t d ⌝ }
+fn step_of(t: Seen, d: Cursor) -> Step
+    ensures { λ r. ⌜ r ≡ stepOf t d ⌝ }
 {
     match t {
-        Told::Time(u) => Look::Time(d, u),
-        Told::Change(kind, v) => Look::Change(d, kind, v),
-        Told::Other => Look::Other(d),
+        Seen::Time(u) => Step::Time(d, u),
+        Seen::Change(kind, v) => Step::Change(d, kind, v),
+        Seen::Other => Step::Other(d),
     }
 }
 
 // What a command is to the listing of a code: a time, a change of the code, or nothing.
-enum Told {
+enum Seen {
     Time(Time),
     Change(ChangeKind, Text),
     Other,
 }
 
 // The command k, read from c.
-fn tell(input: &[u8], c: Cursor, k: Command, code: IdCode) -> Told
+fn seen_command(input: &[u8], c: Cursor, k: Command, code: IdCode) -> Seen
     requires { ⌜ Valid (now input) c ⌝ }
-    ensures { λ r. ⌜ r ≡ ofCode code (told (now (input .entry)) c k) ⌝ }
+    ensures { λ r. ⌜ r ≡ ofCode code (roleOf (now (input .entry)) c k) ⌝ }
 {
     match k {
-        Command::Timestamp(t) => Told::Time(t),
-        Command::ChangeScalar(i, _) => tell_scalar(input, c, i, code),
-        Command::ChangeVector(i, t) => tell_value(i, code, ChangeKind::Vector, t),
-        Command::ChangeReal(i, t) => tell_value(i, code, ChangeKind::Real, t),
-        Command::ChangeString(i, t) => tell_value(i, code, ChangeKind::String, t),
-        Command::Comment(_) => Told::Other,
-        Command::Date(_) => Told::Other,
-        Command::Version(_) => Told::Other,
-        Command::Timescale(_, _) => Told::Other,
-        Command::ScopeDef(_, _) => Told::Other,
-        Command::Upscope => Told::Other,
-        Command::VarDef(_, _, _, _, _) => Told::Other,
-        Command::Enddefinitions => Told::Other,
-        Command::Begin(_) => Told::Other,
-        Command::End(_) => Told::Other,
+        Command::Timestamp(t) => Seen::Time(t),
+        Command::ChangeScalar(i, _) => seen_scalar(input, c, i, code),
+        Command::ChangeVector(i, t) => seen_change(i, code, ChangeKind::Vector, t),
+        Command::ChangeReal(i, t) => seen_change(i, code, ChangeKind::Real, t),
+        Command::ChangeString(i, t) => seen_change(i, code, ChangeKind::String, t),
+        Command::Comment(_) => Seen::Other,
+        Command::Date(_) => Seen::Other,
+        Command::Version(_) => Seen::Other,
+        Command::Timescale(_, _) => Seen::Other,
+        Command::ScopeDef(_, _) => Seen::Other,
+        Command::Upscope => Seen::Other,
+        Command::VarDef(_, _, _, _, _) => Seen::Other,
+        Command::Enddefinitions => Seen::Other,
+        Command::Begin(_) => Seen::Other,
+        Command::End(_) => Seen::Other,
     }
 }
 
 // The place of a scalar is looked for only where the code is the one that is listed.
-fn tell_scalar(input: &[u8], c: Cursor, i: IdCode, code: IdCode) -> Told
+fn seen_scalar(input: &[u8], c: Cursor, i: IdCode, code: IdCode) -> Seen
     requires { ⌜ Valid (now input) c ⌝ }
     ensures { λ r. ⌜ r ≡ ofCode code (change i ChangeKind.Scalar (firstOf (now (input .entry)) c)) ⌝ }
 {
     if i.0 == code.0 {
-        return Told::Change(ChangeKind::Scalar, first(input, c));
+        return Seen::Change(ChangeKind::Scalar, first(input, c));
     }
-    Told::Other
+    Seen::Other
 }
 
-fn tell_value(i: IdCode, code: IdCode, kind: ChangeKind, v: Text) -> Told
+fn seen_change(i: IdCode, code: IdCode, kind: ChangeKind, v: Text) -> Seen
     ensures { λ r. ⌜ r ≡ ofCode code (change i kind v) ⌝ }
 {
     if i.0 == code.0 {
-        return Told::Change(kind, v);
+        return Seen::Change(kind, v);
     }
-    Told::Other
+    Seen::Other
 }
 
-// A scalar's value is the first byte that its command was read from, behind the blanks.
+// A scalar's value is the first byte that its command was read from, after the blanks.
 fn first(input: &[u8], c: Cursor) -> Text
     requires { ⌜ Valid (now input) c ⌝ }
     ensures { λ r. ⌜ r ≡ firstOf (now (input .entry)) c ⌝ }

@@ -1,8 +1,4 @@
-// Numbers as texts, as Rust's FromStr and Display have them: decimal integers, and the form of a real.
-mod real;
-
-pub use real::count_digits;
-pub use real::is_real;
+// Numbers as texts, as Rust's FromStr and Display have them: decimal integers.
 use text::Placed;
 use text::Spelled;
 ghost use mathlib.Core.Path.{_≡_};

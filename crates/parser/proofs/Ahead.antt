@@ -13,11 +13,11 @@ use Rattle.text.specs.declared.Text.{Text}
 use Rattle.command.specs.declared.Command.{Command}
 use Rattle.text.proofs.Lists.{by-test, both}
 use Rattle.token.specs.Read.{Valid, byteRead, skipped, token, textFrom}
-use Rattle.parser.specs.Plan.{Plan, answer, begins, ends, ended, refuse, aToken, aText, withOpen, andThen, run, kindOf, kindPlan}
+use Rattle.parser_part.specs.Plan.{Plan, answer, begins, ends, ended, refuse, aToken, aText, withOpen, andThen, run, kindOf, kindPlan}
 use Rattle.parser.specs.Next.{isGood, found, nextFrom}
 use Rattle.token.specs.declared.Cursor.{Cursor}
 use Rattle.token.specs.declared.Token.{Token}
-use Rattle.parser.specs.declared.Next.{Next}
+use Rattle.parser_part.specs.declared.Next.{Next}
 use Rattle.token.proofs.Reading.{From, from-end, from-step, from-trans, place-step}
 use Rattle.token.proofs.Tokens.{Kept, skipped-from, token-kept, text-kept}
 

@@ -8,9 +8,9 @@ use Rattle.command.specs.Meaning.{Meaning}
 use Rattle.command.specs.declared.Command.{Command}
 use Rattle.command.specs.declared.Refusal.{Refusal}
 use Rattle.parser.specs.Next.{nextFrom}
-use Rattle.parser.specs.All.{Commands, command, stop, finish, followed, commandsOn, commands, Said, said, refusal, done, says, Reading, reads, stops, ends, reading, readAll}
+use Rattle.parser.specs.All.{command, followed, commandsOn, commands, Said, said, refusal, done, says, Reading, reads, stops, ends, reading, readAll}
 use Rattle.token.specs.declared.Cursor.{Cursor}
-use Rattle.parser.specs.declared.Next.{Next}
+use Rattle.parser_part.specs.declared.Next.{Next}
 use Rattle.parser.proofs.Ahead.{command-past}
 
 -- a command leaves less to read
@@ -33,7 +33,7 @@ enough (suc k) (suc m) s c p q = go (nextFrom s c) refl (λ d. enough k m s d)
     go (Next.Refused r l d) e ih = refl
     go (Next.Done d) e ih = refl
 
--- the commands from a cursor are the next one and those behind it
+-- the commands from a cursor are the next one and those after it
 pub commands-step : (s : List ℕ) (c : Cursor) → commands s c ≡ followed (commands s) (nextFrom s c)
 unfolding commands commandsOn
 commands-step s c = go (nextFrom s c) refl

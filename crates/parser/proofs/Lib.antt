@@ -1,12 +1,6 @@
 pub mod Ahead
 pub mod All
 pub mod Local
-pub mod Parts
-pub mod Kept
-pub mod Arms
-pub mod Answers
-pub mod Declarations
 pub mod Moved
 pub mod Stated
-pub mod Fast
-pub mod Hits
+pub mod Ranged

@@ -8,24 +8,25 @@ use borrow.Author.Tests.{lt-ltb, ltb-true, ltb-false, eqb-true, eqb-false}
 use lib.Dec.{eqb, ltb}
 use lib.ListN.{length, drop, getD, length-append, length-drop, drop-of-length-le, List·getD-append}
 use lib.Seq.{take-append-le, drop-append-le}
-use Rattle.text.specs.Bytes.{isBlank, starts, upTo, endMark}
-use Rattle.text.specs.Texts.{part}
+use Rattle.text.specs.Bytes.{isBlank, starts, upTo}
+use Rattle.command.specs.Words.{endMark}
+use Rattle.text.specs.Texts.{limit, part}
 use Rattle.value.specs.Values.{isValue}
 use Rattle.command.specs.Refusals.{numberOf}
 use Rattle.text.specs.declared.Text.{Text}
 use Rattle.text.proofs.Lists.{by-test}
 use Rattle.text.proofs.Equal.{starts-long, starts-more}
 use Rattle.token.specs.Read.{Bound, most, values, passed, valuesIn, Valid, byteRead, after, rest, gap, word, skipped, wordToken, wordHere, token, textTo, textFrom}
-use Rattle.parser.specs.Plan.{Plan, answer, begins, ends, refuse, aToken, aText, andThen, run, kindOf, kindPlan}
+use Rattle.parser_part.specs.Plan.{Plan, answer, begins, ends, refuse, aToken, aText, andThen, run, kindOf, kindPlan}
 use Rattle.parser.specs.Next.{found, nextFrom, settled}
 use Rattle.token.specs.declared.Cursor.{Cursor}
 use Rattle.token.specs.declared.Token.{Token}
-use Rattle.parser.specs.declared.Next.{Next}
+use Rattle.parser_part.specs.declared.Next.{Next}
 use Rattle.token.proofs.Reading.{place-after, from-step, word-le, upTo-le}
 use Rattle.token.proofs.Tokens.{token-long, token-eof, token-text, Within, Kept, skipped-from, token-kept, text-kept}
 use Rattle.parser.proofs.Ahead.{valid-good}
 
--- ---- lists with more behind
+-- ---- lists with more after them
 gap-same : (r z : List ℕ) → length (gap r) < length r → gap (r ++ z) ≡ gap r
 unfolding gap
 gap-same [] z h = absurd (omega arith)
@@ -184,7 +185,7 @@ module _ (s z : List ℕ) where
   unfolding skipped
   skipped-inside c v h = omega (arith, place-after (gap (rest s c)) c, length-drop (c .place) s, v .within)
 
-  pub next-local : (c : Cursor) → Valid s c → length (s ++ z) ≤ 4294967295 → settled (nextFrom s c) ≡ true → nextFrom (s ++ z) c ≡ nextFrom s c
+  pub next-local : (c : Cursor) → Valid s c → length (s ++ z) ≤ limit → settled (nextFrom s c) ≡ true → nextFrom (s ++ z) c ≡ nextFrom s c
   unfolding nextFrom
   next-local c v l h =
       let k = rw (valid-good s c v) at h in

@@ -1,4 +1,4 @@
--- A plan's texts lie in the input, and a plan asks for the same where the input stands behind other bytes: once for every plan.
+-- A plan's texts lie in the input, and a plan asks for the same where the input stands after other bytes: once for every plan.
 use Prim.Native.Nat.{ℕ, _+_, _^_}
 use mathlib.Core.Path.{_≡_, refl}
 use mathlib.Core.Bool.{Bool, true, false, cond}
@@ -8,14 +8,15 @@ use native.Mathlib.Omega.{arith}
 use lib.Dec.{eqb, ltb}
 use lib.ListN.{length, drop, length-take}
 use lib.Seq.{drop-append-add}
-use Rattle.text.specs.Bytes.{bytes, equal, starts, upTo, endMark}
-use Rattle.text.specs.Texts.{part}
-use Rattle.text.specs.Utf8.{validUtf8}
+use Rattle.text.specs.Bytes.{bytes, equal, starts, upTo}
+use Rattle.command.specs.Words.{endMark}
+use Rattle.text.specs.Texts.{limit, part}
+use Rattle.utf8.specs.Utf8.{validUtf8}
 use Rattle.text.specs.declared.Text.{Text}
 use Rattle.text.proofs.Lists.{by-test}
-use Rattle.text.proofs.Trimming.{trimmed-within}
+use Rattle.white_space.proofs.Trimming.{trimmed-within}
 use Rattle.number.specs.Decimal.{parseBelow}
-use Rattle.number.specs.Real.{digitsIn, isReal}
+use Rattle.real.specs.Real.{digitsIn, isReal}
 use Rattle.number.specs.declared.Number.{Number}
 use Rattle.idcode.specs.Id.{parseId}
 use Rattle.idcode.specs.declared.IdCode.{IdCode}
@@ -38,10 +39,11 @@ use Rattle.token.specs.Read.{Bound, most, values, passed, Valid, byteRead, endR
 use Rattle.token.specs.declared.Cursor.{Cursor}
 use Rattle.token.specs.declared.Token.{Token}
 use Rattle.token.proofs.Tokens.{Within, Kept, token-kept, text-kept}
-use Rattle.parser.specs.Plan.{Plan, answer, begins, ends, refuse, aToken, aText, andThen, ended, run, anId, numbered, identified, closing, lastOf, trimmedIn, remarkOf, remark, isAscii, inUnit, scaled, unitIn, timescale, scopeOf, varDef, indexed, varEnd, varOf, wordPlan, wordOf, kindPlan}
-use Rattle.parser.specs.declared.Kind.{Kind}
-use Rattle.parser.specs.declared.Next.{Next}
-use Rattle.parser.specs.declared.Word.{Word}
+use Rattle.parser_part.specs.Plan.{Plan, answer, begins, ends, refuse, aToken, aText, andThen, ended, run, anId, numbered, identified, closing, lastOf, trimmedIn, remarkOf, remark, isAscii, inUnit, scaled, unitIn, timescale, scopeOf, varDef, indexed, varEnd, varOf, wordPlan, kindPlan}
+use Rattle.command.specs.Words.{wordOf}
+use Rattle.parser_part.specs.declared.Kind.{Kind}
+use Rattle.parser_part.specs.declared.Next.{Next}
+use Rattle.command.specs.declared.Word.{Word}
 
 -- ---- n bytes and l lines further on
 abbrev pub movedText : ℕ → Text → Text
@@ -161,7 +163,7 @@ module _ (n : ℕ) (s : List ℕ) where
   timescale-same = tokens (most 8) (λ t w. judged (part s t) (tested (isAscii (part s t)) (unit-same (digitsIn (part s t)) (drop (length (digitsIn (part s t))) (part s t))) (refuses _)))
 
   scope-of : (k : ParsedScopeType) → Same (scopeOf k) (scopeOf k)
-  scope-of (ParsedScopeType.Is k) = tokens (most 4294967295) (λ t w. judged (part s t) (closing-same (Command.ScopeDef k t) w))
+  scope-of (ParsedScopeType.Is k) = tokens (most limit) (λ t w. judged (part s t) (closing-same (Command.ScopeDef k t) w))
   scope-of ParsedScopeType.Invalid = refuses _
 
   -- a variable whose name is n bytes further on
@@ -180,7 +182,7 @@ module _ (n : ℕ) (s : List ℕ) where
   var-of : (k : ParsedVarType) → Same (varOf k) (varOf k)
   var-of (ParsedVarType.Is k) =
       tokens (most 32)
-      (λ t w. judged (part s t) (counted (parseBelow (2 ^ 32) (part s t)) (λ v. id-same (λ i. tokens (most 4294967295) (λ r u. judged (part s r) (var-end _ u))))))
+      (λ t w. judged (part s t) (counted (parseBelow (2 ^ 32) (part s t)) (λ v. id-same (λ i. tokens (most limit) (λ r u. judged (part s r) (var-end _ u))))))
   var-of ParsedVarType.Invalid = refuses _
 
   word-same : (w : Word) → Same (wordPlan w) (wordPlan w)
@@ -202,10 +204,10 @@ module _ (n : ℕ) (s : List ℕ) where
   kind-same (Kind.Scalar x) = id-same (λ i. answers (Command.ChangeScalar i x) tt)
   kind-same Kind.Vector = tokens values (λ t w. id-same (λ i. answers (Command.ChangeVector i t) w))
   kind-same Kind.Real = tokens (most 32) (λ t w. judged (part s t) (tested (isReal (part s t)) (id-same (λ i. answers (Command.ChangeReal i t) w)) (refuses _)))
-  kind-same Kind.Text = tokens (most 4294967295) (λ t w. judged (part s t) (id-same (λ i. answers (Command.ChangeString i t) w)))
+  kind-same Kind.Text = tokens (most limit) (λ t w. judged (part s t) (id-same (λ i. answers (Command.ChangeString i t) w)))
   kind-same Kind.Other = refuses _
 
--- ---- what a plan answers: a command whose texts lie in the input, or a refusal that tells its cursor's line
+-- ---- what a plan answers: a command whose texts lie in the input, or a refusal with its cursor's line
 abbrev pub Told : List ℕ → Next → Type 0
 Told s (Next.Command k d) = Inside s k
 Told s (Next.Refused e m d) = m ≡ d .line
@@ -229,7 +231,7 @@ run-told (refuses e) c v = refl
 run-told {n} {s} (tokens b m) c v = then-told s c _ (token s c b) (token-kept s c b v) (λ t d u w. run-told (m t w) d u)
 run-told {n} {s} (texts m) c v = then-told s c _ (textFrom s c) (text-kept s c v) (λ t d u w. run-told (m t w) d u)
 
--- ---- reading behind other bytes
+-- ---- reading after other bytes
 module _ (pre s : List ℕ) (l : ℕ) where
   abbrev far : Cursor → Cursor
   far c = moved (length pre) l c

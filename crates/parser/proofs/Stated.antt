@@ -14,11 +14,12 @@ use Rattle.token.specs.Read.{Valid, byteRead, endRead, skipped}
 use Rattle.token.specs.declared.Cursor.{Cursor}
 use Rattle.token.proofs.Reading.{valid-step}
 use Rattle.token.proofs.Tokens.{skipped-valid}
-use Rattle.parser.specs.Plan.{refused, run, kindOf, kindPlan}
+use Rattle.parser_part.specs.Plan.{refused, run, kindOf, kindPlan}
 use Rattle.parser.specs.Next.{isGood, found, nextFrom}
-use Rattle.parser.specs.declared.Next.{Next}
+use Rattle.parser_part.specs.declared.Next.{Next}
 use Rattle.parser.proofs.Ahead.{good-valid, valid-good, Past, next-past, command-past}
 use Rattle.parser.proofs.Moved.{moved, movedNext, Inside, Told, kind-same, run-told, byte-moved, end-moved, skipped-moved, run-moved}
+use Rattle.text.specs.Texts.{limit}
 
 -- the cursor that an answer hands on
 abbrev pub cursorOf : Next → Cursor
@@ -26,7 +27,7 @@ cursorOf (Next.Command k d) = d
 cursorOf (Next.Refused e n d) = d
 cursorOf (Next.Done d) = d
 
--- what an answer tells: a command's texts lie in the input, a refusal's line is its cursor's, and Done is at the end
+-- what holds of an answer: a command's texts lie in the input, a refusal's line is its cursor's, and Done is at the end
 abbrev Tells : List ℕ → Next → Type 0
 Tells s (Next.Command k d) = Inside s k
 Tells s (Next.Refused e n d) = n ≡ d .line
@@ -98,7 +99,7 @@ module _ (s : List ℕ) (c : Cursor) where
   tells : Tells s (nextFrom s c)
   tells = by-good s c (Tells s) (λ v. valid-tells s c v) refl
 
-  -- Done is at the input's end, and a refusal tells its cursor's line
+  -- Done is at the input's end, and a refusal has its cursor's line
   pub done-end : {d : Cursor} → nextFrom s c ≡ Next.Done d → d .place ≡ length s
   done-end e = rw e at tells
 
@@ -111,7 +112,7 @@ module _ (s : List ℕ) (c : Cursor) where
 
 -- bytes that stand before the input do not matter: the answer is the same, so many bytes and lines further on
 module _ (pre s : List ℕ) (lines : ℕ) (c : Cursor) (v : Valid s c) where
-  pub moved-valid : lines ≤ length pre → length (pre ++ s) ≤ 4294967295 → Valid (pre ++ s) (moved (length pre) lines c)
+  pub moved-valid : lines ≤ length pre → length (pre ++ s) ≤ limit → Valid (pre ++ s) (moved (length pre) lines c)
   moved-valid h short =
       let long = length-append pre s in
       record { short = short; within = omega (arith, v .within); started = omega (arith, v .started); counted = omega (arith, v .counted) }

@@ -1,4 +1,4 @@
--- Reading on until the end or a refusal: the commands, each with the cursor behind it; and what they mean, in order.
+-- Reading on until the end or a refusal: the commands, each with the cursor after it; and what they mean, in order.
 use Prim.Native.Nat.{ℕ, zero, suc, _-_}
 use mathlib.Core.List.{List, [], _∷_}
 use lib.ListN.{length}
@@ -7,9 +7,9 @@ use Rattle.command.specs.declared.Command.{Command}
 use Rattle.command.specs.declared.Refusal.{Refusal}
 use Rattle.parser.specs.Next.{nextFrom}
 use Rattle.token.specs.declared.Cursor.{Cursor}
-use Rattle.parser.specs.declared.Next.{Next}
+use Rattle.parser_part.specs.declared.Next.{Next}
 
--- the commands in order, each with the cursor behind it, then how reading stops
+-- the commands in order, each with the cursor after it, then how reading stops
 pub data Commands : Type 0 where
   command : Command → Cursor → Commands → Commands
   stop : Refusal → ℕ → Cursor → Commands

@@ -1,5 +1,2 @@
-pub mod Plan
-pub mod Parts
 pub mod Next
 pub mod All
-pub mod Quick

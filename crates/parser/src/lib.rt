@@ -1,66 +1,17 @@
 // Reading one command (parser.rs of vcd 0.7.0): the first byte chooses, each part is judged before the next is read.
-mod change;
-mod declare;
-mod part;
-pub mod quick;
-
 use command::Command;
 use command::Open;
 use command::Refusal;
-use command::SimulationCommand;
-use idcode::IdCode;
+use command::Word;
+use parser_part::Kind;
+pub use parser_part::Next;
 use token::Cursor;
 use token::Token;
 use value::Value;
 ghost use mathlib.Core.Path.{_≡_};
-ghost use lib.ListN.{drop};
-ghost use Rattle.text.specs.Names.{lookup};
 ghost use Rattle.token.specs.Read.{Valid};
-ghost use Rattle.parser.specs.Plan.{run, dollar, words, wordOf, wordPlan, kindOf, kindPlan, ended as endedOf, withOpen};
+ghost use Rattle.parser_part.specs.Plan.{run, dollar, wordPlan, kindOf, kindPlan, ended as endedOf, withOpen};
 ghost use Rattle.parser.specs.Next.{isGood, nextFrom, fresh as freshCursor};
-
-// What a command's first byte chooses.
-pub enum Kind {
-    Dollar,
-    Hash,
-    Scalar(Value),
-    Vector,
-    Real,
-    Text,
-    Other,
-}
-
-// The words after `$`.
-pub enum Word {
-    Comment,
-    Date,
-    Version,
-    Timescale,
-    Scope,
-    Upscope,
-    Var,
-    Enddefinitions,
-    Begin(SimulationCommand),
-    End,
-    Unknown,
-}
-
-// A command and the cursor after it; a refusal, its line, and the cursor just after the last byte read; or the end.
-pub enum Next {
-    Command(Command, Cursor),
-    Refused(Refusal, u64, Cursor),
-    Done(Cursor),
-}
-
-pub enum NumberRead {
-    Is(u64, Cursor),
-    Refused(Refusal, Cursor),
-}
-
-pub enum IdRead {
-    Is(IdCode, Cursor),
-    Refused(Refusal, Cursor),
-}
 
 // The cursor before the first byte.
 pub fn start() -> Cursor
@@ -85,7 +36,7 @@ pub fn next_command(input: &[u8], c: Cursor) -> Next
             return Next::Done(token::end_read(from));
         }
         let b = input[at];
-        // A byte behind the blanks is no newline, so none is pending.
+        // A byte after the blanks is no newline, so none is pending.
         chosen(input, token::word_end_read(from, at + 1), kind_of(b))
     } else {
         Next::Refused(Refusal::BadPlace, c.line, c)
@@ -96,7 +47,7 @@ pub fn next_command(input: &[u8], c: Cursor) -> Next
 pub fn placed(input: &[u8], c: Cursor) -> bool
     ensures { λ r. ⌜ r ≡ isGood (now (input .entry)) c ⌝ }
 {
-    if 4294967295 < input.len() {
+    if text::LIMIT < input.len() {
         return false;
     }
     if input.len() < c.place {
@@ -137,11 +88,11 @@ fn chosen(input: &[u8], c: Cursor, k: Kind) -> Next
 {
     match k {
         Kind::Dollar => parse_command(input, c),
-        Kind::Hash => change::parse_timestamp(input, c),
-        Kind::Scalar(v) => change::parse_scalar(input, c, v),
-        Kind::Vector => change::parse_vector(input, c),
-        Kind::Real => change::parse_real(input, c),
-        Kind::Text => change::parse_string(input, c),
+        Kind::Hash => parser_change::parse_timestamp(input, c),
+        Kind::Scalar(v) => parser_change::parse_scalar(input, c, v),
+        Kind::Vector => parser_change::parse_vector(input, c),
+        Kind::Real => parser_change::parse_real(input, c),
+        Kind::Text => parser_change::parse_string(input, c),
         Kind::Other => Next::Refused(Refusal::UnexpectedCharacter, c.line, c),
     }
 }
@@ -153,69 +104,9 @@ fn parse_command(input: &[u8], c: Cursor) -> Next
 {
     let tok = token::read_token(input, c, 16);
     match tok {
-        Token::Word(t, next) => act(input, next, word_of(text::part(input, t))),
+        Token::Word(t, next) => act(input, next, Word::from_str(text::part(input, t))),
         Token::Refused(e, next) => Next::Refused(e, next.line, next),
     }
-}
-
-// Which word a text is.
-fn word_of(w: &[u8]) -> Word
-    ensures { λ r. ⌜ r ≡ wordOf (now (w .entry)) ⌝ }
-{
-    if text::equals(w, b"comment") {
-        return Word::Comment;
-    }
-    if text::equals(w, b"date") {
-        return Word::Date;
-    }
-    if text::equals(w, b"version") {
-        return Word::Version;
-    }
-    if text::equals(w, b"timescale") {
-        return Word::Timescale;
-    }
-    scope_word(w)
-}
-
-// The words from the fifth on.
-fn scope_word(w: &[u8]) -> Word
-    ensures { λ r. ⌜ r ≡ lookup (drop 4 words) Word.Unknown (now (w .entry)) ⌝ }
-{
-    if text::equals(w, b"scope") {
-        return Word::Scope;
-    }
-    if text::equals(w, b"upscope") {
-        return Word::Upscope;
-    }
-    if text::equals(w, b"var") {
-        return Word::Var;
-    }
-    if text::equals(w, b"enddefinitions") {
-        return Word::Enddefinitions;
-    }
-    simulation_word(w)
-}
-
-// The words from the ninth on.
-fn simulation_word(w: &[u8]) -> Word
-    ensures { λ r. ⌜ r ≡ lookup (drop 8 words) Word.Unknown (now (w .entry)) ⌝ }
-{
-    if text::equals(w, &command::DUMPALL) {
-        return Word::Begin(SimulationCommand::Dumpall);
-    }
-    if text::equals(w, &command::DUMPOFF) {
-        return Word::Begin(SimulationCommand::Dumpoff);
-    }
-    if text::equals(w, &command::DUMPON) {
-        return Word::Begin(SimulationCommand::Dumpon);
-    }
-    if text::equals(w, &command::DUMPVARS) {
-        return Word::Begin(SimulationCommand::Dumpvars);
-    }
-    if text::equals(w, b"end") {
-        return Word::End;
-    }
-    Word::Unknown
 }
 
 fn act(input: &[u8], c: Cursor, w: Word) -> Next
@@ -223,14 +114,14 @@ fn act(input: &[u8], c: Cursor, w: Word) -> Next
     ensures { λ r. ⌜ r ≡ run (wordPlan w) (now (input .entry)) c ⌝ }
 {
     match w {
-        Word::Comment => declare::read_comment(input, c),
-        Word::Date => declare::read_date(input, c),
-        Word::Version => declare::read_version(input, c),
-        Word::Timescale => declare::read_timescale(input, c),
-        Word::Scope => declare::read_scope(input, c),
-        Word::Upscope => part::read_command_end(input, c, Command::Upscope),
-        Word::Var => declare::read_var(input, c),
-        Word::Enddefinitions => part::read_command_end(input, c, Command::Enddefinitions),
+        Word::Comment => parser_declare::read_comment(input, c),
+        Word::Date => parser_declare::read_date(input, c),
+        Word::Version => parser_declare::read_version(input, c),
+        Word::Timescale => parser_declare::read_timescale(input, c),
+        Word::Scope => parser_declare::read_scope(input, c),
+        Word::Upscope => parser_part::read_command_end(input, c, Command::Upscope),
+        Word::Var => parser_declare::read_var(input, c),
+        Word::Enddefinitions => parser_part::read_command_end(input, c, Command::Enddefinitions),
         Word::Begin(k) => Next::Command(Command::Begin(k), with_open(c, Open::Of(k))),
         Word::End => ended(c),
         Word::Unknown => Next::Refused(Refusal::UnknownCommand, c.line, c),

@@ -6,11 +6,11 @@ use Rattle.scope.specs.Index.{parseIndex}
 use Rattle.text.specs.Bytes.{isBlank, equal, has, starts, upTo}
 use Rattle.text.specs.Names.{lookup}
 use Rattle.text.specs.Texts.{part}
-use Rattle.text.specs.Utf8.{lies, dueAfter, wellFormed, validUtf8}
-use Rattle.text.specs.WhiteSpace.{beginsWith, blankAt, blanks, allWhite, keptOf}
+use Rattle.utf8.specs.Utf8.{lies, dueAfter, wellFormed, validUtf8}
+use Rattle.white_space.specs.WhiteSpace.{beginsWith, blankAt, blanks, allWhite, keptOf}
 use Rattle.value.specs.Values.{isValue, lower}
 use Rattle.token.specs.Read.{byteRead, endRead, after, gap, word, skipped, valuesIn, wordToken, wordHere, token, textTo, textFrom}
-use Rattle.parser.specs.Plan.{run, kindOf}
+use Rattle.parser_part.specs.Plan.{run, kindOf}
 use Rattle.parser.specs.Next.{isGood, found, nextFrom}
 use Rattle.parser.specs.All.{commandsOn, commands, reading, readAll}
 use Rattle.points.specs.Points.{Asked, Told, points, tells}

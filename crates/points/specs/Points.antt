@@ -1,4 +1,4 @@
--- Document 01's starred points: what is asked, and what must be told, in the page's numbers.
+-- Document 01's starred points: what is asked, and what must be answered, in the page's numbers.
 use Prim.Native.Nat.{ℕ}
 use Prim.Native.String.{String}
 use mathlib.Core.List.{List, [], _∷_}
@@ -57,7 +57,7 @@ endingOf ends = done
 abbrev pub toldDump : Reading → Told
 toldDump r = dump (commandsOf r) (endingOf r)
 
--- what the definitions tell
+-- what the definitions say
 abbrev pub tells : Asked → Told
 tells (anId s) = toldId (parseId (bytes s))
 tells (anIndex s) = toldIndex (parseIndex (bytes s))

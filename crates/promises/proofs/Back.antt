@@ -8,9 +8,10 @@ use native.Mathlib.Omega.{arith}
 use borrow.Author.Tests.{lt-ltb, le-ltb}
 use lib.ListN.{length, drop, getD, length-append, length-drop}
 use lib.Seq.{take-append-add, drop-append-seam}
-use Rattle.text.specs.Bytes.{isBlank, bytes, equal, has, starts, holds, upTo, allBlank, noBlank, isToken, endMark}
-use Rattle.text.specs.Texts.{part}
-use Rattle.text.specs.Utf8.{validUtf8}
+use Rattle.text.specs.Bytes.{isBlank, bytes, equal, has, starts, holds, upTo, allBlank, noBlank, isToken}
+use Rattle.command.specs.Words.{endMark}
+use Rattle.text.specs.Texts.{limit, part}
+use Rattle.utf8.specs.Utf8.{validUtf8}
 use Rattle.text.specs.declared.Text.{Text}
 use Rattle.text.proofs.Lists.{both, not-swap}
 use Rattle.text.proofs.Equal.{starts-cut}
@@ -23,10 +24,11 @@ use Rattle.token.specs.declared.Cursor.{Cursor}
 use Rattle.token.specs.declared.Token.{Token}
 use Rattle.token.proofs.Reading.{place-after, after-append, rest-after, part-here, head-of, gap-of, word-of, upTo-of}
 use Rattle.token.proofs.Tokens.{token-text}
-use Rattle.parser.specs.Plan.{Plan, answer, begins, ends, aToken, aText, aWord, closing, run, wordOf, wordPlan, kindOf, kindPlan, withOpen}
+use Rattle.parser_part.specs.Plan.{Plan, answer, begins, ends, aToken, aText, aWord, closing, run, wordPlan, kindOf, kindPlan, withOpen}
+use Rattle.command.specs.Words.{wordOf}
 use Rattle.parser.specs.Next.{found, nextFrom}
 use Rattle.parser.specs.All.{Said, said, done, says}
-use Rattle.parser.specs.declared.Word.{Word}
+use Rattle.command.specs.declared.Word.{Word}
 use Rattle.parser.proofs.Ahead.{valid-good}
 use Rattle.promises.specs.Stated.{core}
 
@@ -39,7 +41,7 @@ pub advanced : (s a l r : List ℕ) (c e : Cursor) → Before s c (a ++ l) r e �
 advanced s a l r c e h =
     record { left = rest-after s a (l ++ r) c (h .left ∙ append-assoc a l r); ends = sym (after-append a l c) ∙ h .ends }
 
--- a token stands here, and a blank behind it
+-- a token stands here, and a blank after it
 token-reads : (s : List ℕ) (c : Cursor) (n : Bound) (x : ℕ) (w : List ℕ) (b : ℕ) (r : List ℕ) → rest s c ≡ (x ∷ w) ++ b ∷ r → isBlank x ≡ false → noBlank (x ∷ w) ≡ true
     → isBlank b ≡ true → length (x ∷ w) ≤ passed n (x ∷ w) → token s c n ≡ Token.Word (record { start = c .place; len = length (x ∷ w) }) (after ((x ∷ w) ++ b ∷ []) c)
 unfolding token wordHere skipped after allBlank
@@ -59,7 +61,7 @@ text-reads s c a b r left p q =
     rw (before, left, behind, after-append (a ++ b ∷ []) endMark c)
 
 module _ (s : List ℕ) (r : List ℕ) (e : Cursor) (y : Said) where
-  -- ---- a token and the blank behind it
+  -- ---- a token and the blank after it
   pub by-token : (c : Cursor) (n : Bound) (f : Text → List ℕ → Plan) (w : List ℕ) (b : ℕ) (l : List ℕ) → Before s c (w ++ b ∷ l) r e → isToken w ≡ true → isBlank b ≡ true
       → length w ≤ passed n w → ((t : Text) (d : Cursor) → part s t ≡ w → Before s d l r e → says s (run (f t w) s d) ≡ y) → says s (run (aToken n f) s c) ≡ y
   unfolding run isToken noBlank
@@ -137,12 +139,12 @@ by-end s c v p =
     let all : length s ≤ after (rest s c) c .place = omega (arith, place-after (rest s c) c, length-drop (c .place) s, v .within) in
     rw (valid-good s c v, gap-all (rest s c) p, le-ltb _ _ all)
 
--- ---- a command's layout, behind the blanks g, reads back: the core is to be read, and after it the cursor is e
+-- ---- a command's layout, after the blanks g, reads back: the core is to be read, and after it the cursor is e
 abbrev pub Back : List ℕ → List ℕ → List ℕ → Cursor → Cursor → Meaning → Type 0
 Back s g r c e m = Before s c (g ++ core m) r e → says s (nextFrom s c) ≡ said m (withOpen e (openAfter m (e .sim)))
 
 -- a part is no longer than the input
-pub fits : (s : List ℕ) (c d : Cursor) (w l r : List ℕ) (e : Cursor) → Valid s c → Before s d (w ++ l) r e → length w ≤ 4294967295
+pub fits : (s : List ℕ) (c d : Cursor) (w l r : List ℕ) (e : Cursor) → Valid s c → Before s d (w ++ l) r e → length w ≤ limit
 fits s c d w l r e v h =
     omega (arith, v .short, length-drop (d .place) s, ap length (h .left), length-append (w ++ l) r, length-append w l)
 

@@ -7,11 +7,11 @@ use native.Mathlib.Omega.{arith}
 use borrow.Author.Tests.{eqb-false}
 use lib.ListN.{length}
 use Rattle.text.specs.Bytes.{isBlank, bytes, has, allBlank, noBlank, isToken}
-use Rattle.text.specs.Utf8.{validUtf8}
+use Rattle.utf8.specs.Utf8.{validUtf8}
 use Rattle.text.proofs.Has.{of-each}
 use Rattle.text.proofs.Lists.{both, not-swap}
 use Rattle.number.specs.Decimal.{decimalOf}
-use Rattle.number.specs.Real.{isReal}
+use Rattle.real.specs.Real.{isReal}
 use Rattle.number.proofs.Writing.{read-written}
 use Rattle.value.specs.Values.{isValue, lower}
 use Rattle.value.specs.declared.Value.{Value}
@@ -23,12 +23,14 @@ use Rattle.command.specs.Meaning.{Meaning, timestamp, change, scalar, vector, r
 use Rattle.command.specs.declared.Command.{Command}
 use Rattle.token.specs.Read.{most, values, valuesIn, Valid}
 use Rattle.token.specs.declared.Cursor.{Cursor}
-use Rattle.parser.specs.Plan.{answer, anId, run, kindOf}
+use Rattle.parser_part.specs.Plan.{answer, anId, run, kindOf}
 use Rattle.parser.specs.All.{said, says}
-use Rattle.write.specs.Layout.{layout, isName, isId, areLower, isVector}
+use Rattle.write_check.specs.Check.{isName, areLower, isVector}
+use Rattle.write.specs.Layout.{layout, isId}
 use Rattle.promises.proofs.Back.{Before, Back, fits, by-token, by-word, by-first, by-answer}
 use Rattle.promises.proofs.Plain.{plain-number, plain-id}
 use Rattle.promises.proofs.Reals.{plain-real}
+use Rattle.text.specs.Texts.{limit}
 
 -- ---- values
 -- a written value's byte is no blank, is its own lower case, and is one that the reader takes
@@ -116,5 +118,5 @@ module _ (s g r : List ℕ) (c e : Cursor) (v : Valid s c) (p : allBlank g ≡ t
   string-back i x y z o h =
       let x-is = both (isToken x) (validUtf8 x) o in
       by-first s r e _ c g 115 (x ++ 32 ∷ (idText (i .0) ++ bytes "\n")) v h p refl
-      λ d a. by-word s r e _ d (most 4294967295) _ x 32 (idText (i .0) ++ bytes "\n") a (x-is .0) refl (fits s c d x (32 ∷ (idText (i .0) ++ bytes "\n")) r e v a) (x-is .1)
+      λ d a. by-word s r e _ d (most limit) _ x 32 (idText (i .0) ++ bytes "\n") a (x-is .0) refl (fits s c d x (32 ∷ (idText (i .0) ++ bytes "\n")) r e v a) (x-is .1)
       λ t d q a. id-last i _ (λ i. Command.ChangeString i t) d y z (ap (λ (l : List ℕ). change i (string l)) q) a

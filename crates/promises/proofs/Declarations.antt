@@ -1,21 +1,24 @@
 -- The layout of each `$` command reads back: one line for each part. Assumes nothing.
 use Prim.Native.Nat.{ℕ, _^_, _≤_, _<_}
 use mathlib.Core.Path.{_≡_, refl, sym, ap, _∙_}
-use mathlib.Core.Bool.{true, false, cond, false≢true}
+use mathlib.Core.Bool.{true, false, false≢true}
 use mathlib.Core.List.{List, [], _∷_, _++_, append-assoc}
 use native.Mathlib.Omega.{arith}
 use borrow.Author.Tests.{eqb-true, lt-ltb}
-use lib.Dec.{eqb}
 use lib.ListN.{length, drop, take-append-drop}
 use lib.Seq.{drop-length}
-use Rattle.text.specs.Bytes.{isBlank, bytes, equal, has, starts, holds, allBlank, noBlank, isToken, endMark}
+use Rattle.text.specs.Bytes.{isBlank, bytes, equal, has, starts, holds, allBlank, noBlank, isToken}
+use Rattle.command.specs.Numbers.{simNumber}
+use Rattle.command.specs.Words.{endMark}
+use Rattle.command.proofs.Numbers.{sim-order}
 use Rattle.text.specs.Names.{lookup}
-use Rattle.text.specs.Texts.{part}
-use Rattle.text.specs.Utf8.{lies, dueAfter, wellFormed, validUtf8}
+use Rattle.text.specs.Texts.{limit, part}
+use Rattle.utf8.specs.Utf8.{lies, dueAfter, wellFormed, validUtf8}
 use Rattle.text.specs.declared.Text.{Text}
 use Rattle.text.proofs.Lists.{both, cond-both}
+use Rattle.text.proofs.Orders.{same}
 use Rattle.number.specs.Decimal.{isDigit, allDigits, decimalOf}
-use Rattle.number.specs.Real.{digitsIn}
+use Rattle.real.specs.Real.{digitsIn}
 use Rattle.number.proofs.Laws.{digit-range}
 use Rattle.number.proofs.Writing.{read-written, digits-decimal, short}
 use Rattle.idcode.specs.Id.{idText}
@@ -38,11 +41,12 @@ use Rattle.command.specs.declared.SimulationCommand.{SimulationCommand}
 use Rattle.token.specs.Read.{most, Valid}
 use Rattle.token.specs.declared.Cursor.{Cursor}
 use Rattle.token.proofs.Reading.{part-in}
-use Rattle.parser.specs.Plan.{run, trimmedIn, isAscii, aWord, lastOf, varEnd, remarkOf, remark as remarkPlan, varDef as varCommand}
+use Rattle.parser_part.specs.Plan.{run, trimmedIn, isAscii, aWord, lastOf, varEnd, remarkOf, remark as remarkPlan, varDef as varCommand}
 use Rattle.parser.specs.Next.{nextFrom}
 use Rattle.parser.specs.All.{Said, said, says}
-use Rattle.parser.specs.declared.Word.{Word}
-use Rattle.write.specs.Layout.{layout, isName, isId, isTrimmed, isOpen, simNumber}
+use Rattle.command.specs.declared.Word.{Word}
+use Rattle.write_check.specs.Check.{isName, isTrimmed}
+use Rattle.write.specs.Layout.{layout, isId, isOpen}
 use Rattle.write.specs.Run.{SizedIndex}
 use Rattle.promises.proofs.Back.{Before, Back, fits, by-word, by-text, by-answer, by-begins, by-ends, by-closing, by-dollar}
 use Rattle.promises.proofs.Plain.{plain, plain-name, plain-number, plain-id}
@@ -74,22 +78,10 @@ inner s t (a ∷ x) e q =
     rw (framed-trim a x e) (part-in s (bytes "    ") (a ∷ x) (10 ∷ y) (t .start) whole)
 
 -- ---- which simulation command is open, by its number
-unfoldable simAt : ℕ → SimulationCommand
-simAt n =
-    cond (eqb n 1) SimulationCommand.Dumpall
-    (cond (eqb n 2) SimulationCommand.Dumpoff (cond (eqb n 3) SimulationCommand.Dumpon SimulationCommand.Dumpvars))
-
-sim-at : (k : SimulationCommand) → simAt (simNumber k) ≡ k
-unfolding simAt
-sim-at SimulationCommand.Dumpall = refl
-sim-at SimulationCommand.Dumpoff = refl
-sim-at SimulationCommand.Dumpon = refl
-sim-at SimulationCommand.Dumpvars = refl
-
 open-is : (o : Open) (k : SimulationCommand) → isOpen o k ≡ true → o ≡ Open.Of k
 unfolding isOpen
 open-is Open.None k e = absurd (false≢true e)
-open-is (Open.Of j) k e = ap Open.Of (sym (sim-at j) ∙ ap simAt (eqb-true (simNumber j) (simNumber k) e) ∙ sim-at k)
+open-is (Open.Of j) k e = ap Open.Of (same sim-order j k (eqb-true (simNumber j) (simNumber k) e))
 
 module _ (s g r : List ℕ) (c e : Cursor) (v : Valid s c) (p : allBlank g ≡ true) where
   -- ---- one word
@@ -171,7 +163,7 @@ module _ (s g r : List ℕ) (c e : Cursor) (v : Valid s c) (p : allBlank g ≡ t
       by-dollar s g r c e v p _ Word.Scope (bytes "scope") 32 (bytes (scopeName k) ++ 32 ∷ (x ++ bytes " $end\n")) h refl refl (omega arith) refl
       λ d a. by-word s r e _ d (most 32) _ (bytes (scopeName k)) 32 (x ++ bytes " $end\n") a (n .token) refl (n .short) (n .utf8)
       λ t d q a. rw (scope-names .back k)
-      (by-word s r e _ d (most 4294967295) _ x 32 (bytes "$end\n") a (x-is .0) refl (fits s c d x (bytes " $end\n") r e v a) (x-is .1)
+      (by-word s r e _ d (most limit) _ x 32 (bytes "$end\n") a (x-is .0) refl (fits s c d x (bytes " $end\n") r e v a) (x-is .1)
       λ t d q a. by-closing s r e (scopeDef k x) (Command.ScopeDef k t) (ap (scopeDef k) q) d a)
 
   -- ---- a variable up to its name
@@ -197,7 +189,7 @@ module _ (s g r : List ℕ) (c e : Cursor) (v : Valid s c) (p : allBlank g ≡ t
       λ t d q a. rw (read-written (2 ^ 32) n b)
       (by-word s r e _ d (most 32) _ (idText (i .0)) 32 l₁ a (w .token) refl (w .short) (w .utf8)
       λ t d q a. rw (id-fits i f z)
-      (by-word s r e _ d (most 4294967295) _ x 32 l a (x-is .0) refl (fits s c d x (32 ∷ l) r e v a) (x-is .1)
+      (by-word s r e _ d (most limit) _ x 32 l a (x-is .0) refl (fits s c d x (32 ∷ l) r e v a) (x-is .1)
       λ t d q a. next t d q a)))
 
   -- the last token

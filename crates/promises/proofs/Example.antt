@@ -9,9 +9,9 @@ use lib.Dec.{ltb}
 use lib.IntN.{pos, negsuc}
 use lib.ListN.{replicate}
 use Rattle.text.specs.Bytes.{bytes, isBlank, noBlank, isToken, has, starts, holds}
-use Rattle.text.specs.Texts.{isWithin, part, putAnswer, putBytes}
-use Rattle.text.specs.Utf8.{lies, dueAfter, wellFormed, validUtf8}
-use Rattle.text.specs.WhiteSpace.{beginsWith, blankAt, blanks, allWhite, keptOf}
+use Rattle.text.specs.Texts.{isWithin, part, putAnswer, putBytes, tooLong, outside}
+use Rattle.utf8.specs.Utf8.{lies, dueAfter, wellFormed, validUtf8}
+use Rattle.white_space.specs.WhiteSpace.{beginsWith, blankAt, blanks, allWhite, keptOf}
 use Rattle.text.specs.declared.Text.{Text}
 use Rattle.text.proofs.Lists.{both}
 use Rattle.number.specs.Decimal.{digitsOf}
@@ -27,15 +27,16 @@ use Rattle.command.specs.declared.Command.{Command}
 use Rattle.command.specs.declared.SimulationCommand.{SimulationCommand}
 use Rattle.parser.specs.Next.{fresh as start}
 use Rattle.parser.specs.All.{readAll, exactly}
-use Rattle.header.specs.Good.{isParent, openTo, isGoodFrom, isGoodTable}
+use Rattle.rows.specs.Good.{isParent, openTo, isGoodFrom, isGoodTable}
 use Rattle.header.specs.Header.{nothing, withTimescale}
-use Rattle.header.specs.Rows.{parentOf, signedOf, isIndex, indexOf, allZero, rowOf, rowAt, wordsOf, rowsFrom}
-use Rattle.header.specs.Types.{scopeTypeOf, varTypeOf}
+use Rattle.rows.specs.Rows.{parentOf, signedOf, isIndex, indexOf, listed, allZero, rowOf, rowAt, wordsOf, rowsFrom}
+use Rattle.scope.specs.Numbers.{scopeTypeOf, varTypeOf}
 use Rattle.header.specs.declared.Header.{Header}
-use Rattle.header.specs.declared.rows.Parent.{Parent}
-use Rattle.header.specs.declared.rows.Row.{Row}
-use Rattle.write.specs.Call.{outcome, tooLong, outside, call}
-use Rattle.write.specs.Layout.{layout, isTrimmed, isRemark, isName, areLower, isVector, isId, isOpen, raised, stateAfter, fresh}
+use Rattle.rows.specs.declared.Parent.{Parent}
+use Rattle.rows.specs.declared.Row.{Row}
+use Rattle.write_check.specs.Check.{isTrimmed, isRemark, isName, areLower, isVector}
+use Rattle.write.specs.Call.{outcome, call}
+use Rattle.write.specs.Layout.{layout, isId, isOpen, raised, stateAfter, fresh}
 use Rattle.write.specs.Run.{layouts, statesAfter, Sized, taken, effect}
 use Rattle.write_header.specs.Meanings.{rowMeanings, headerMeanings}
 use Rattle.write_header.specs.Written.{someOutside, misplaced, stopped, headerCall}
@@ -83,7 +84,7 @@ abbrev with : ℕ → (k : Command) → Sized (meaning source k) → Call
 with room k z = single k source (replicate room 0) z
 
 pub calls : List Call
-unfolding part fits table wordsOf
+unfolding part fits table wordsOf listed
 calls =
     with 60 (Command.End SimulationCommand.Dumpall) tt  -- nothing is open
     ∷ rows 4 200 refl  -- the table has no fourth row
@@ -105,7 +106,7 @@ accepted =
     ∷ begin SimulationCommand.Dumpvars ∷ change (id 0) (vector (bytes "x0x")) ∷ end SimulationCommand.Dumpvars ∷ []
 
 pub written : runs fresh calls ≡ record { file = file; accepted = accepted }
-unfolding calls file accepted table fits sized runs effectOf taken layouts statesAfter effect call outcome tooLong outside isWithin putAnswer putBytes layout isTrimmed isRemark isName areLower isVector isId isOpen raised stateAfter part lower isToken noBlank isBlank has starts holds validUtf8 wellFormed dueAfter lies beginsWith blankAt blanks allWhite keptOf digitsOf textOf isParent openTo isGoodFrom isGoodTable parentOf signedOf isIndex indexOf allZero rowOf rowAt wordsOf rowsFrom scopeTypeOf varTypeOf rowMeanings headerMeanings someOutside misplaced stopped headerCall
+unfolding calls file accepted table fits sized runs effectOf taken layouts statesAfter effect call outcome tooLong outside isWithin putAnswer putBytes layout isTrimmed isRemark isName areLower isVector isId isOpen raised stateAfter part lower isToken noBlank isBlank has starts holds validUtf8 wellFormed dueAfter lies beginsWith blankAt blanks allWhite keptOf digitsOf textOf isParent openTo isGoodFrom isGoodTable parentOf signedOf isIndex indexOf listed allZero rowOf rowAt wordsOf rowsFrom scopeTypeOf varTypeOf rowMeanings headerMeanings someOutside misplaced stopped headerCall
 written = refl
 
 pub reads-so : readAll file start ≡ exactly accepted

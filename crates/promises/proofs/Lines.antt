@@ -1,4 +1,4 @@
--- The line that a refusal of reading tells is that of the cursor it returns. Assumes nothing.
+-- The line that a refusal of reading roleIn is that of the cursor it returns. Assumes nothing.
 use Prim.Native.Nat.{ℕ}
 use mathlib.Core.Path.{_≡_, refl}
 use mathlib.Core.List.{List}
@@ -7,8 +7,8 @@ use lib.ListN.{length, getD}
 use Rattle.command.specs.declared.Open.{Open}
 use Rattle.command.specs.declared.Refusal.{Refusal}
 use Rattle.parser.specs.Next.{isGood, found, nextFrom}
-use Rattle.parser.specs.Plan.{Plan, answer, begins, ends, refuse, aToken, aText, run, andThen, ended, kindOf, kindPlan}
-use Rattle.parser.specs.declared.Next.{Next}
+use Rattle.parser_part.specs.Plan.{Plan, answer, begins, ends, refuse, aToken, aText, run, andThen, ended, kindOf, kindPlan}
+use Rattle.parser_part.specs.declared.Next.{Next}
 use Rattle.text.proofs.Lists.{by-test}
 use Rattle.text.specs.Texts.{part}
 use Rattle.text.specs.declared.Text.{Text}
@@ -17,7 +17,7 @@ use Rattle.token.specs.declared.Cursor.{Cursor}
 use Rattle.token.specs.declared.Token.{Token}
 use Rattle.promises.specs.Stated.{RefusalLine}
 
--- what an answer tells of its line
+-- what an answer roleIn of its line
 abbrev Lined : Next → Type 0
 Lined (Next.Command k d) = Unit {0}
 Lined (Next.Refused e n d) = n ≡ d .line

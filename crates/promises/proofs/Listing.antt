@@ -14,16 +14,16 @@ use Rattle.idcode.specs.declared.IdCode.{IdCode}
 use Rattle.token.specs.Read.{bit}
 use Rattle.token.specs.declared.Cursor.{Cursor}
 use Rattle.parser.specs.Next.{nextFrom}
-use Rattle.parser.specs.declared.Next.{Next}
+use Rattle.parser_part.specs.declared.Next.{Next}
 use Rattle.parser.proofs.All.{less-left}
-use Rattle.listing.specs.Listing.{Told, time, change, other, told, sinceAfter, Entry, rowsIn, listOf, filled}
+use Rattle.listing.specs.Listing.{Role, time, change, other, roleOf, sinceAfter, Entry, rowsIn, listOf, filled}
 use Rattle.listing.specs.Rows.{changeAt}
 use Rattle.listing.specs.declared.Ended.{Ended}
-use Rattle.listing.specs.declared.rows.Change.{Change}
-use Rattle.listing.specs.declared.rows.ChangeKind.{ChangeKind}
-use Rattle.listing.specs.declared.rows.Since.{Since}
+use Rattle.listing.specs.declared.changes.Change.{Change}
+use Rattle.listing.specs.declared.changes.ChangeKind.{ChangeKind}
+use Rattle.listing.specs.declared.changes.Since.{Since}
 use Rattle.listing.proofs.Complete.{every, complete, incomplete, row-is, rest-kept, Way, countOf, lastTime as timeOf, each-change, full-there, ends-refused, ends-whole}
-use Rattle.promises.specs.Listed.{Step, Steps, Stops, tells, isOf, count, lastTime, Holds}
+use Rattle.promises.specs.Listed.{Step, Steps, Stops, roleIn, isOf, count, lastTime, Holds}
 use Rattle.promises.specs.Stated.{ReadingStops, ListingComplete, Beyond, ListingFull}
 
 -- ---- reading stops
@@ -48,22 +48,22 @@ unfolding Stopping
 reading-stops s c = stops-at s (suc (length s - c .place)) c (omega arith)
 
 -- ---- steps as the laws of `listing` have them
-way : (s : List ℕ) (c d : Cursor) (xs : List Step) → Steps s c xs d → Way s c (map (tells s) xs) d
+way : (s : List ℕ) (c d : Cursor) (xs : List Step) → Steps s c xs d → Way s c (map (roleIn s) xs) d
 way s c d [] w = w
-way s c d (x ∷ xs) w = (x .what, x .to, w .1, ap (λ (y : Cursor). told s y (x .what)) (w .0), way s (x .to) d xs (w .2))
+way s c d (x ∷ xs) w = (x .what, x .to, w .1, ap (λ (y : Cursor). roleOf s y (x .what)) (w .0), way s (x .to) d xs (w .2))
 
-count-told : (i : IdCode) (y : Told) (ys : List Told) → countOf i (y ∷ ys) ≡ bit (isOf i y) + countOf i ys
+count-told : (i : IdCode) (y : Role) (ys : List Role) → countOf i (y ∷ ys) ≡ bit (isOf i y) + countOf i ys
 count-told i (time t) ys = refl
 count-told i (change j k v) ys = refl
 count-told i other ys = refl
 
-count-is : (s : List ℕ) (i : IdCode) (xs : List Step) → countOf i (map (tells s) xs) ≡ count s i xs
+count-is : (s : List ℕ) (i : IdCode) (xs : List Step) → countOf i (map (roleIn s) xs) ≡ count s i xs
 count-is s i [] = refl
-count-is s i (x ∷ xs) = count-told i (tells s x) (map (tells s) xs) ∙ ap (λ (n : ℕ). bit (isOf i (tells s x)) + n) (count-is s i xs)
+count-is s i (x ∷ xs) = count-told i (roleIn s x) (map (roleIn s) xs) ∙ ap (λ (n : ℕ). bit (isOf i (roleIn s x)) + n) (count-is s i xs)
 
-time-is : (s : List ℕ) (t : Since) (xs : List Step) → timeOf t (map (tells s) xs) ≡ lastTime s t xs
+time-is : (s : List ℕ) (t : Since) (xs : List Step) → timeOf t (map (roleIn s) xs) ≡ lastTime s t xs
 time-is s t [] = refl
-time-is s t (x ∷ xs) = time-is s (sinceAfter t (tells s x)) xs
+time-is s t (x ∷ xs) = time-is s (sinceAfter t (roleIn s x)) xs
 
 -- ---- a change among the steps
 -- those before a step, and the reading of it
@@ -75,12 +75,12 @@ front s c d (y ∷ ys) zs x w =
     ((w .0, w .1, r .0), r .1)
 
 -- a change of the code counts
-one-more : (s : List ℕ) (i : IdCode) (ys zs : List Step) (x : Step) (k : ChangeKind) (v : Text) → tells s x ≡ change i k v
+one-more : (s : List ℕ) (i : IdCode) (ys zs : List Step) (x : Step) (k : ChangeKind) (v : Text) → roleIn s x ≡ change i k v
     → count s i ys < count s i (ys ++ (x ∷ zs))
 one-more s i [] zs x k v e = rw (e, eq-eqb (i .0) (i .0) refl) (omega arith)
 one-more s i (y ∷ ys) zs x k v e = let h = one-more s i ys zs x k v e in omega arith
 
-of-change : (i : IdCode) (y : Told) → isOf i y ≡ true → (k : ChangeKind) × (v : Text) × (y ≡ change i k v)
+of-change : (i : IdCode) (y : Role) → isOf i y ≡ true → (k : ChangeKind) × (v : Text) × (y ≡ change i k v)
 of-change i (time t) e = absurd (false≢true e)
 of-change i (change j k v) e = (k, v, ap (λ (n : ℕ). change (record { 0 = n }) k v) (eqb-true (j .0) (i .0) e))
 of-change i other e = absurd (false≢true e)
@@ -89,30 +89,30 @@ of-change i other e = absurd (false≢true e)
 Found : List ℕ → IdCode → ℕ → List Step → Type 0
 Found s i n xs = (ys : List Step) × (x : Step) × Beyond s i n xs ys x
 
-behind : (s : List ℕ) (i : IdCode) (n m : ℕ) (x : Step) (xs : List Step) → bit (isOf i (tells s x)) + n ≡ m → Found s i n xs → Found s i m (x ∷ xs)
+later : (s : List ℕ) (i : IdCode) (n m : ℕ) (x : Step) (xs : List Step) → bit (isOf i (roleIn s x)) + n ≡ m → Found s i n xs → Found s i m (x ∷ xs)
 unfolding Found
-behind s i n m x xs e r =
+later s i n m x xs e r =
     let b = r .2 in (
       x ∷ r .0,
       r .1,
       record { later = b .later; kind = b .kind; value = b .value; splits = ap (λ (l : List Step). x ∷ l) (b .splits); is = b .is; before = rw (b .before) e },
     )
 
-here : (s : List ℕ) (i : IdCode) (x : Step) (xs : List Step) → isOf i (tells s x) ≡ true → Found s i 0 (x ∷ xs)
+here : (s : List ℕ) (i : IdCode) (x : Step) (xs : List Step) → isOf i (roleIn s x) ≡ true → Found s i 0 (x ∷ xs)
 unfolding Found
 here s i x xs e =
-    let y = of-change i (tells s x) e in
+    let y = of-change i (roleIn s x) e in
     ([], x, record { later = xs; kind = y .0; value = y .1; splits = refl; is = y .2; before = refl })
 
 find : (s : List ℕ) (i : IdCode) (xs : List Step) (n : ℕ) → n < count s i xs → Found s i n xs
 find s i [] n h = absurd (omega arith)
 find s i (x ∷ xs) zero h =
-    by-test (isOf i (tells s x)) (here s i x xs)
-    (λ e. let b : bit (isOf i (tells s x)) ≡ 0 = rw e in behind s i 0 0 x xs (omega arith) (find s i xs 0 (omega arith)))
+    by-test (isOf i (roleIn s x)) (here s i x xs)
+    (λ e. let b : bit (isOf i (roleIn s x)) ≡ 0 = rw e in later s i 0 0 x xs (omega arith) (find s i xs 0 (omega arith)))
 find s i (x ∷ xs) (suc n) h =
-    by-test (isOf i (tells s x))
-    (λ e. let b : bit (isOf i (tells s x)) ≡ 1 = rw e in behind s i n (suc n) x xs (omega arith) (find s i xs n (omega arith)))
-    (λ e. let b : bit (isOf i (tells s x)) ≡ 0 = rw e in behind s i (suc n) (suc n) x xs (omega arith) (find s i xs (suc n) (omega arith)))
+    by-test (isOf i (roleIn s x))
+    (λ e. let b : bit (isOf i (roleIn s x)) ≡ 1 = rw e in later s i n (suc n) x xs (omega arith) (find s i xs n (omega arith)))
+    (λ e. let b : bit (isOf i (roleIn s x)) ≡ 0 = rw e in later s i (suc n) (suc n) x xs (omega arith) (find s i xs (suc n) (omega arith)))
 
 -- ---- a change's row
 all-length : (s : List ℕ) (i : IdCode) (c : Cursor) → length (rowsIn (every s i c)) ≡ length (every s i c)
@@ -126,14 +126,14 @@ module _ (s : List ℕ) (c : Cursor) (i : IdCode) (table : List ℕ) where
   made = listOf s c i table .rows
 
   -- the changes among xs have these places among all
-  module _ (xs : List Step) (d : Cursor) (w : Steps s c xs d) (ys zs : List Step) (x : Step) (k : ChangeKind) (v : Text) (e : xs ≡ ys ++ (x ∷ zs)) (q : tells s x ≡ change i k v) where
+  module _ (xs : List Step) (d : Cursor) (w : Steps s c xs d) (ys zs : List Step) (x : Step) (k : ChangeKind) (v : Text) (e : xs ≡ ys ++ (x ∷ zs)) (q : roleIn s x ≡ change i k v) where
     abbrev row : Change
     row = Change.Is (lastTime s Since.None ys) (x .to .line) k v
 
     placed : getD all (count s i ys) Change.None ≡ row
     placed =
         let f = front s c d ys zs x (rw e at w) in
-        rw (count-is s i ys, time-is s Since.None ys) at (each-change s i c (x .from) (map (tells s) ys) (way s c (x .from) ys (f .0)) (x .what) (x .to) k v (f .1) q)
+        rw (count-is s i ys, time-is s Since.None ys) at (each-change s i c (x .from) (map (roleIn s) ys) (way s c (x .from) ys (f .0)) (x .what) (x .to) k v (f .1) q)
 
     -- so there are more of all
     longer : count s i ys < length all
@@ -166,13 +166,13 @@ module _ (s : List ℕ) (c : Cursor) (i : IdCode) (table : List ℕ) where
 
 -- ---- enough room
 module _ (s : List ℕ) (c : Cursor) (i : IdCode) (xs : List Step) (d f : Cursor) (w : Steps s c xs d) where
-  abbrev ws : Way s c (map (tells s) xs) d
+  abbrev ws : Way s c (map (roleIn s) xs) d
   ws = way s c d xs w
 
   ended : (e : Ended) → Stops s d e f → (table : List ℕ) → count s i xs ≤ length table / 6
       → (length (listOf s c i table .rows) ≡ count s i xs) × (listOf s c i table .ended ≡ e) × (listOf s c i table .cursor ≡ f)
-  ended Ended.Whole q table h = rw (count-is s i xs) at (ends-whole s i c d (map (tells s) xs) ws table (rw (count-is s i xs) h) f q)
-  ended (Ended.Refused r n) q table h = rw (count-is s i xs) at (ends-refused s i c d (map (tells s) xs) ws table (rw (count-is s i xs) h) r n f q)
+  ended Ended.Whole q table h = rw (count-is s i xs) at (ends-whole s i c d (map (roleIn s) xs) ws table (rw (count-is s i xs) h) f q)
+  ended (Ended.Refused r n) q table h = rw (count-is s i xs) at (ends-refused s i c d (map (roleIn s) xs) ws table (rw (count-is s i xs) h) r n f q)
 
   module _ (e : Ended) (q : Stops s d e f) where
     -- all the changes are those among xs, as a table with room for both shows
@@ -209,5 +209,5 @@ listing-full s c i xs d w table h =
     let room : n < length (every s i c) = omega (arith, all-length s i c, b .before) in
     let y : listOf s c i table .rows ≡ take n l = rw (incomplete s c i table room) in
     let long : length (listOf s c i table .rows) ≡ n = ap length y ∙ length-take-le n l (omega (arith, all-length s i c)) in
-    let z = full-there s i c (x .from) (map (tells s) ys) (way s c (x .from) ys (o .0)) (x .what) (x .to) (b .kind) (b .value) (o .1) (b .is) table (count-is s i ys ∙ b .before) in
+    let z = full-there s i c (x .from) (map (roleIn s) ys) (way s c (x .from) ys (o .0)) (x .what) (x .to) (b .kind) (b .value) (o .1) (b .is) table (count-is s i ys ∙ b .before) in
     (ys, x, b, holds s c i table ys (x .from) _ _ (o .0) (rw long y) (b .before ∙ sym long) (z .0) (z .1))

@@ -6,11 +6,12 @@ use mathlib.Core.List.{List, [], _∷_}
 use native.Mathlib.Omega.{arith}
 use lib.ListN.{length}
 use Rattle.text.specs.Bytes.{isBlank, noBlank, isToken}
-use Rattle.text.specs.Utf8.{validUtf8}
+use Rattle.utf8.specs.Utf8.{validUtf8}
 use Rattle.text.proofs.Blanks.{blank-no}
 use Rattle.text.proofs.Lists.{cond-both}
-use Rattle.text.proofs.Names.{Each, Name}
-use Rattle.text.proofs.WellFormed.{Ascii, ascii-valid}
+use Rattle.text.proofs.Each.{Each}
+use Rattle.text.proofs.Names.{Name}
+use Rattle.utf8.proofs.WellFormed.{Ascii, ascii-valid}
 use Rattle.number.specs.Decimal.{isDigit, allDigits, decimalOf}
 use Rattle.number.proofs.Laws.{digit-range}
 use Rattle.number.proofs.Writing.{digits-decimal, short, some}
@@ -24,19 +25,19 @@ Printed b = (b < 0x80) × (isBlank b ≡ false)
 pub printed : (b : ℕ) → 33 ≤ b → b ≤ 126 → Printed b
 printed b h g = (omega arith, blank-no b (λ q. omega arith) (λ q. omega arith) (λ q. omega arith) (λ q. omega arith))
 
-solid : {w : List ℕ} → Each Printed w → noBlank w ≡ true
+solid : (w : List ℕ) → Each Printed w → noBlank w ≡ true
 unfolding noBlank
-solid Each.none = refl
-solid (Each.more p e) = rw (p .1) (solid e)
+solid [] e = refl
+solid (b ∷ w) e = rw (e .0 .1) (solid w (e .1))
 
-ascii : {w : List ℕ} → Each Printed w → Ascii w
-ascii Each.none = tt
-ascii (Each.more p e) = (p .0, ascii e)
+ascii : (w : List ℕ) → Each Printed w → Ascii w
+ascii [] e = tt
+ascii (b ∷ w) e = (e .0 .0, ascii w (e .1))
 
 token-of : (w : List ℕ) → 0 < length w → Each Printed w → isToken w ≡ true
 unfolding isToken
 token-of [] l e = absurd (omega arith)
-token-of (b ∷ w) l e = solid e
+token-of (b ∷ w) l e = solid (b ∷ w) e
 
 -- what a reader of words asks for
 pub record Plain (w : List ℕ) : Type 0 where
@@ -45,7 +46,7 @@ pub record Plain (w : List ℕ) : Type 0 where
   pub short : length w ≤ 32
 
 pub plain : (w : List ℕ) → 0 < length w → length w ≤ 32 → Each Printed w → Plain w
-plain w l u e = record { token = token-of w l e; utf8 = ascii-valid w (ascii e); short = u }
+plain w l u e = record { token = token-of w l e; utf8 = ascii-valid w (ascii w e); short = u }
 
 pub plain-name : (w : List ℕ) → Name w → Plain w
 plain-name w n = plain w (n .some) (omega (arith, n .short)) (n .plain)
@@ -53,11 +54,11 @@ plain-name w n = plain w (n .some) (omega (arith, n .short)) (n .plain)
 -- ---- numbers
 pub printed-digits : (w : List ℕ) → allDigits w ≡ true → Each Printed w
 unfolding allDigits
-printed-digits [] e = Each.none
+printed-digits [] e = tt
 printed-digits (b ∷ w) e =
     let h = cond-both (isDigit b) (allDigits w) e in
     let r = digit-range b (h .0) in
-    Each.more (printed b (omega (arith, r .0)) (omega (arith, r .1))) (printed-digits w (h .1))
+    (printed b (omega (arith, r .0)) (omega (arith, r .1)), printed-digits w (h .1))
 
 pub plain-number : (n : ℕ) → n < 2 ^ 64 → Plain (decimalOf n)
 plain-number n h = plain (decimalOf n) (some n) (omega (arith, short 19 n (omega arith))) (printed-digits (decimalOf n) (digits-decimal n))
@@ -65,11 +66,11 @@ plain-number n h = plain (decimalOf n) (some n) (omega (arith, short 19 n (omega
 -- ---- ids
 printed-ids : (w : List ℕ) → allId w ≡ true → Each Printed w
 unfolding allId
-printed-ids [] e = Each.none
+printed-ids [] e = tt
 printed-ids (b ∷ w) e =
     let h = cond-both (isIdByte b) (allId w) e in
     let r = id-range b (h .0) in
-    Each.more (printed b (r .0) (r .1)) (printed-ids w (h .1))
+    (printed b (r .0) (r .1), printed-ids w (h .1))
 
 pub plain-id : (i : ℕ) → i < 2 ^ 64 → Plain (idText i)
 plain-id i h =

@@ -4,16 +4,17 @@ use mathlib.Core.Path.{refl}
 use borrow.Author.Tests.{eq-eqb}
 use Rattle.text.specs.Bytes.{isBlank, noBlank, isToken, equal, has, starts}
 use Rattle.text.specs.Names.{lookup}
-use Rattle.text.specs.Texts.{isWithin, part, putAnswer, putBytes}
-use Rattle.text.specs.Utf8.{lies, dueAfter, wellFormed, validUtf8}
+use Rattle.text.specs.Texts.{isWithin, part, putAnswer, putBytes, outside}
+use Rattle.utf8.specs.Utf8.{lies, dueAfter, wellFormed, validUtf8}
 use Rattle.number.specs.Decimal.{digitsOf}
 use Rattle.idcode.specs.Id.{parseId, textOf, isIdByte, allId, idTail, sumFrom}
 use Rattle.token.specs.Read.{byteRead, endRead, after, gap, word, skipped, wordToken, wordHere, token}
-use Rattle.parser.specs.Plan.{run, kindOf}
+use Rattle.parser_part.specs.Plan.{run, kindOf}
 use Rattle.parser.specs.Next.{isGood, found, nextFrom}
 use Rattle.parser.specs.All.{commandsOn, commands, reading, readAll, exactly}
-use Rattle.write.specs.Call.{outcome, outside, call}
-use Rattle.write.specs.Layout.{layout, isName, isId, raised, stateAfter}
+use Rattle.write_check.specs.Check.{isName}
+use Rattle.write.specs.Call.{outcome, call}
+use Rattle.write.specs.Layout.{layout, isId, raised, stateAfter}
 use Rattle.promises.specs.Stated.{WriterPoints}
 
 pub writer-points : WriterPoints

@@ -11,9 +11,9 @@ use Rattle.text.specs.Bytes.{bytes, equal, has}
 use Rattle.text.proofs.Equal.{equal-true}
 use Rattle.text.proofs.Has.{of-each}
 use Rattle.text.proofs.Lists.{by-test, both, either}
-use Rattle.text.proofs.Names.{Each}
+use Rattle.text.proofs.Each.{Each}
 use Rattle.number.specs.Decimal.{isDigit, allDigits}
-use Rattle.number.specs.Real.{digitsIn, some, lowerCase, unsigned, isNamed, isExponent, isRest, isDecimal, isReal}
+use Rattle.real.specs.Real.{digitsIn, some, lowerCase, unsigned, isNamed, isExponent, isRest, isDecimal, isReal}
 use Rattle.number.proofs.Laws.{digit-range}
 use Rattle.promises.proofs.Plain.{Printed, printed, printed-digits, Plain, plain}
 
@@ -26,31 +26,31 @@ unfolding digitsIn
 after-digits [] e = e
 after-digits (b ∷ r) e =
     by-test (isDigit b)
-    (λ q. let d = digit-range b q in Each.more (printed b (omega (arith, d .0)) (omega (arith, d .1))) (after-digits r (rw q at e)))
+    (λ q. let d = digit-range b q in (printed b (omega (arith, d .0)) (omega (arith, d .1)), after-digits r (rw q at e)))
     (λ q. rw q at e)
 
 after-sign : (r : List ℕ) → Each Printed (unsigned r) → Each Printed r
 unfolding unsigned
 after-sign [] e = e
 after-sign (b ∷ r) e =
-    by-test (has (bytes "+-") b) (λ q. Each.more (of-each Printed (bytes "+-") b (ink 43 refl, (ink 45 refl, tt)) q) (rw q at e)) (λ q. rw q at e)
+    by-test (has (bytes "+-") b) (λ q. (of-each Printed (bytes "+-") b (ink 43 refl, (ink 45 refl, tt)) q, rw q at e)) (λ q. rw q at e)
 
 exponent : (r : List ℕ) → isExponent r ≡ true → Each Printed r
 unfolding isExponent
-exponent [] e = Each.none
+exponent [] e = tt
 exponent (b ∷ r) e =
     let x = both (has (bytes "eE") b && some (unsigned r)) (allDigits (unsigned r)) e in
     let y = both (has (bytes "eE") b) (some (unsigned r)) (x .0) in
-    Each.more (of-each Printed (bytes "eE") b (ink 101 refl, (ink 69 refl, tt)) (y .0)) (after-sign r (printed-digits (unsigned r) (x .1)))
+    (of-each Printed (bytes "eE") b (ink 101 refl, (ink 69 refl, tt)) (y .0), after-sign r (printed-digits (unsigned r) (x .1)))
 
 tail : (d : Bool) (r : List ℕ) → isRest d r ≡ true → Each Printed r
 unfolding isRest
-tail d [] e = Each.none
+tail d [] e = tt
 tail d (b ∷ r) e =
     by-test (eqb b 46)
     (λ q.
     let h = both (d || some (digitsIn r)) (isExponent (drop (length (digitsIn r)) r)) (rw q at e) in
-    Each.more (rw (eqb-true b 46 q) (ink 46 refl)) (after-digits r (exponent _ (h .1))))
+    (rw (eqb-true b 46 q) (ink 46 refl), after-digits r (exponent _ (h .1))))
     (λ q. exponent (b ∷ r) (both d (isExponent (b ∷ r)) (rw q at e) .1))
 
 low : (b : ℕ) → Printed (lowerCase b) → Printed b
@@ -61,8 +61,8 @@ low b p =
     (λ q. rw q at p)
 
 lows : (r : List ℕ) → Each Printed (map lowerCase r) → Each Printed r
-lows [] e = Each.none
-lows (b ∷ r) (Each.more p e) = Each.more (low b p) (lows r e)
+lows [] e = tt
+lows (b ∷ r) e = (low b (e .0), lows r (e .1))
 
 -- the texts of names, once
 named : (r : List ℕ) → isNamed r ≡ true → Each Printed r
@@ -72,9 +72,9 @@ named r e =
     let i = ink 105 refl in
     let n = ink 110 refl in
     let f = ink 102 refl in
-    let inf : Each Printed (bytes "inf") = Each.more i (Each.more n (Each.more f Each.none)) in
-    let infinity : Each Printed (bytes "infinity") = Each.more i (Each.more n (Each.more f (Each.more i (Each.more n (Each.more i (Each.more (ink 116 refl) (Each.more (ink 121 refl) Each.none))))))) in
-    let nan : Each Printed (bytes "nan") = Each.more n (Each.more (ink 97 refl) (Each.more n Each.none)) in
+    let inf : Each Printed (bytes "inf") = (i, (n, (f, tt))) in
+    let infinity : Each Printed (bytes "infinity") = (i, (n, (f, (i, (n, (i, (ink 116 refl, (ink 121 refl, tt)))))))) in
+    let nan : Each Printed (bytes "nan") = (n, (ink 97 refl, (n, tt))) in
     lows r
     (either (equal l (bytes "inf") || equal l (bytes "infinity")) (equal l (bytes "nan")) e
     (λ q. either (equal l (bytes "inf")) (equal l (bytes "infinity")) q (λ x. rw (equal-true _ _ x) inf) (λ x. rw (equal-true _ _ x) infinity))

@@ -14,10 +14,11 @@ use Rattle.command.specs.Meaning.{Meaning, remark, timescale, scopeDef, upscope
 use Rattle.command.specs.declared.Command.{Command}
 use Rattle.parser.specs.Next.{fresh as start}
 use Rattle.parser.specs.All.{readAll}
-use Rattle.header.specs.Rows.{rowsOf}
+use Rattle.rows.specs.Rows.{rowsOf}
 use Rattle.header.specs.declared.KeptTimescale.{KeptTimescale}
+use Rattle.write_check.specs.Check.{isName}
 use Rattle.write.specs.Call.{Outcome, outcome, misplaced, call, newVar}
-use Rattle.write.specs.Layout.{layout, isId, isName, raised, writable, stateAfter, fresh}
+use Rattle.write.specs.Layout.{layout, isId, raised, writable, stateAfter, fresh}
 use Rattle.write.specs.Run.{layouts, statesAfter, Sized, AllSized, Accepted, taken, Effect, gives, effect}
 use Rattle.write.specs.declared.Writer.{Writer}
 use Rattle.write_header.specs.Meanings.{headerMeanings}

@@ -8,12 +8,12 @@ use borrow.Author.Tests.{eq-eqb, ne-eqb, eqb-true, eqb-false}
 use lib.Dec.{eqb, ltb}
 use lib.ListN.{length, drop, length-append}
 use Rattle.text.specs.Bytes.{bytes, starts}
-use Rattle.text.specs.Utf8.{lies, dueAfter, wellFormed, validUtf8}
-use Rattle.text.specs.WhiteSpace.{beginsWith, blankAt, blanks, allWhite, keptOf, trimmed}
-use Rattle.text.proofs.Blank.{run-within}
+use Rattle.utf8.specs.Utf8.{lies, dueAfter, wellFormed, validUtf8}
+use Rattle.white_space.specs.WhiteSpace.{beginsWith, blankAt, blanks, allWhite, keptOf, trimmed}
+use Rattle.white_space.proofs.Blank.{run-within}
 use Rattle.text.proofs.Lists.{by-test, both}
-use Rattle.text.proofs.WellFormed.{valid-append}
-use Rattle.write.specs.Layout.{isTrimmed}
+use Rattle.utf8.proofs.WellFormed.{valid-append}
+use Rattle.write_check.specs.Check.{isTrimmed}
 
 -- ---- UTF-8
 spaces-valid : validUtf8 (bytes "    ") ≡ true
@@ -27,7 +27,7 @@ newline-valid = refl
 pub framed-valid : (t : List ℕ) → validUtf8 t ≡ true → validUtf8 (bytes "    " ++ (t ++ bytes "\n")) ≡ true
 framed-valid t e = valid-append (bytes "    ") (t ++ bytes "\n") spaces-valid ∙ valid-append t (bytes "\n") e ∙ newline-valid
 
--- ---- a newline behind
+-- ---- a newline after
 at-snoc : (a : ℕ) (t : List ℕ) → blankAt (a ∷ (t ++ 10 ∷ [])) ≡ blankAt (a ∷ t)
 unfolding blankAt beginsWith starts
 at-snoc a [] = refl

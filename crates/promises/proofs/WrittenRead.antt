@@ -7,11 +7,12 @@ use native.Mathlib.Omega.{arith}
 use borrow.Author.Tests.{leb-true}
 use lib.Dec.{leb, eqb}
 use lib.ListN.{length, length-append, length-drop}
-use Rattle.text.specs.Bytes.{isBlank, allBlank, holds, endMark}
-use Rattle.text.specs.Utf8.{validUtf8}
+use Rattle.text.specs.Bytes.{bytes, isBlank, allBlank, holds}
+use Rattle.command.specs.Words.{spoken, endMark}
+use Rattle.utf8.specs.Utf8.{validUtf8}
 use Rattle.text.proofs.Lists.{both, not-swap}
-use Rattle.number.specs.Real.{isReal}
-use Rattle.command.specs.Meaning.{Meaning, remark, timescale, scopeDef, upscope, varDef, enddefinitions, timestamp, change, scalar, vector, real, string, begin, end, openAfter}
+use Rattle.real.specs.Real.{isReal}
+use Rattle.command.specs.Meaning.{Meaning, remark, timescale, scopeDef, upscope, varDef, enddefinitions, timestamp, change, scalar, vector, real, string, begin, end, remarkWord, openAfter}
 use Rattle.token.specs.Read.{Valid, after, rest}
 use Rattle.token.specs.declared.Cursor.{Cursor}
 use Rattle.token.proofs.Reading.{rest-after, sim-after, valid-after}
@@ -19,10 +20,11 @@ use Rattle.parser.specs.Next.{fresh as start}
 use Rattle.parser.specs.All.{reads, readAll, exactly}
 use Rattle.parser.proofs.Ahead.{valid-open}
 use Rattle.parser.proofs.All.{read-on, read-end}
-use Rattle.write.specs.Layout.{layout, isRemark, isTrimmed, isName, isVector, isShortReal, isId, writable, stateAfter, fresh}
+use Rattle.write_check.specs.Check.{isRemark, isTrimmed, isName, isVector, isShortReal}
+use Rattle.write.specs.Layout.{layout, isId, writable, stateAfter, fresh}
 use Rattle.write.specs.Run.{layouts, Sized, Accepted}
 use Rattle.write.specs.declared.Writer.{Writer}
-use Rattle.promises.specs.Stated.{due, core, behind, OneBack, WrittenRead}
+use Rattle.promises.specs.Stated.{due, core, cursorAfter, OneBack, WrittenRead}
 use Rattle.promises.proofs.Back.{Before, Back, by-end}
 use Rattle.promises.proofs.Changes.{timestamp-back, scalar-back, vector-back, real-back, string-back}
 use Rattle.promises.proofs.Declarations.{upscope-back, enddefinitions-back, begin-back, end-back, remark-back, timescale-back, scope-back, var-back}
@@ -31,7 +33,10 @@ use Rattle.promises.proofs.Declarations.{upscope-back, enddefinitions-b
 -- a layout is what reading takes, and what is due then
 pub layout-is : (m : Meaning) (r : List ℕ) → layout m ++ r ≡ core m ++ (due m ++ r)
 unfolding layout
-layout-is (remark k t) r = simp append-assoc
+layout-is (remark k t) r =
+    append-assoc (spoken (remarkWord k)) (bytes "\n    " ++ (t ++ bytes "\n$end\n")) r
+    ∙ ap (λ z. spoken (remarkWord k) ++ (bytes "\n    " ++ z)) (append-assoc t (bytes "\n$end\n") r ∙ sym (append-assoc t (bytes "\n" ++ endMark) (bytes "\n" ++ r)))
+    ∙ sym (append-assoc (spoken (remarkWord k)) (bytes "\n" ++ ((bytes "    " ++ t) ++ (bytes "\n" ++ endMark))) (bytes "\n" ++ r))
 layout-is (timescale n u) r = refl
 layout-is (scopeDef k t) r = refl
 layout-is upscope r = refl
@@ -103,10 +108,10 @@ all-back (m ∷ ms) w s g c a v o p h =
     let e : Cursor = after l c in
     let left : rest s c ≡ l ++ (due m ++ layouts ms) = stands m s g (layouts ms) c h .left in
     let room : c .place + length l ≤ length s = omega (arith, ap length left, length-append l (due m ++ layouts ms), length-drop (c .place) s, v .within) in
-    let next : Valid s (behind g m c) = valid-open s e (openAfter m (e .sim)) (valid-after s l c v room) in
-    let same : behind g m c .sim ≡ stateAfter w m .sim = ap (openAfter m) (sim-after l c ∙ o) in
-    read-on s c (behind g m c) m (one-back m w s g (layouts ms) c (a .0) (a .1) v o p h)
-    ∙ ap (reads m) (all-back ms (stateAfter w m) s (due m) (behind g m c) (a .2) next same (due-blank m) (rest-after s l (due m ++ layouts ms) c left))
+    let next : Valid s (cursorAfter g m c) = valid-open s e (openAfter m (e .sim)) (valid-after s l c v room) in
+    let same : cursorAfter g m c .sim ≡ stateAfter w m .sim = ap (openAfter m) (sim-after l c ∙ o) in
+    read-on s c (cursorAfter g m c) m (one-back m w s g (layouts ms) c (a .0) (a .1) v o p h)
+    ∙ ap (reads m) (all-back ms (stateAfter w m) s (due m) (cursorAfter g m c) (a .2) next same (due-blank m) (rest-after s l (due m ++ layouts ms) c left))
 
 pub written-read : WrittenRead
 unfolding allBlank

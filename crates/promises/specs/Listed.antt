@@ -11,15 +11,15 @@ use Rattle.command.specs.declared.Command.{Command}
 use Rattle.token.specs.Read.{bit}
 use Rattle.token.specs.declared.Cursor.{Cursor}
 use Rattle.parser.specs.Next.{nextFrom}
-use Rattle.parser.specs.declared.Next.{Next}
-use Rattle.listing.specs.Listing.{Told, time, change, other, told, sinceAfter, listOf, answerOf, filled}
+use Rattle.parser_part.specs.declared.Next.{Next}
+use Rattle.listing.specs.Listing.{Role, time, change, other, roleOf, sinceAfter, listOf, answerOf, filled}
 use Rattle.listing.specs.Rows.{changeAt}
 use Rattle.listing.specs.declared.Ended.{Ended}
-use Rattle.listing.specs.declared.rows.Change.{Change}
-use Rattle.listing.specs.declared.rows.ChangeKind.{ChangeKind}
-use Rattle.listing.specs.declared.rows.Since.{Since}
+use Rattle.listing.specs.declared.changes.Change.{Change}
+use Rattle.listing.specs.declared.changes.ChangeKind.{ChangeKind}
+use Rattle.listing.specs.declared.changes.Since.{Since}
 
--- a command that is read, with the cursors before and behind it
+-- a command that is read, with the cursors before and after it
 pub record Step : Type 0 where
   pub from : Cursor
   pub what : Command
@@ -36,30 +36,30 @@ Stops s d Ended.Whole f = nextFrom s d ≡ Next.Done f
 Stops s d (Ended.Refused e n) f = nextFrom s d ≡ Next.Refused e n f
 
 -- a time, a change with the kind and the place of its value, or nothing to a listing
-abbrev pub tells : List ℕ → Step → Told
-tells s x = told s (x .from) (x .what)
+abbrev pub roleIn : List ℕ → Step → Role
+roleIn s x = roleOf s (x .from) (x .what)
 
 -- is it a change of the code i, and how many of them are?
-abbrev pub isOf : IdCode → Told → Bool
+abbrev pub isOf : IdCode → Role → Bool
 isOf i (time t) = false
 isOf i (change j k v) = eqb (j .0) (i .0)
 isOf i other = false
 
 abbrev pub count : List ℕ → IdCode → List Step → ℕ
 count s i [] = 0
-count s i (x ∷ xs) = bit (isOf i (tells s x)) + count s i xs
+count s i (x ∷ xs) = bit (isOf i (roleIn s x)) + count s i xs
 
 -- the last timestamp among them; t, if there is none
 abbrev pub lastTime : List ℕ → Since → List Step → Since
 lastTime s t [] = t
-lastTime s t (x ∷ xs) = lastTime s (sinceAfter t (tells s x)) xs
+lastTime s t (x ∷ xs) = lastTime s (sinceAfter t (roleIn s x)) xs
 
 -- The listing of the code i from c into a table: it holds exactly the changes among xs, and ends as e at f.
 pub record Holds (s : List ℕ) (c : Cursor) (i : IdCode) (table : List ℕ) (xs : List Step) (e : Ended) (f : Cursor) : Type 0 where
   -- as many rows as changes
   pub answer : answerOf (listOf s c i table) ≡ record { cursor = f; count = count s i xs; ended = e }
-  -- each change has the row behind those of the changes before it: with the last timestamp before it, or none, and the reader's line just after it
-  pub each : (ys zs : List Step) (x : Step) (k : ChangeKind) (v : Text) → xs ≡ ys ++ (x ∷ zs) → tells s x ≡ change i k v
+  -- each change has the row after those of the changes before it: with the last timestamp before it, or none, and the reader's line just after it
+  pub each : (ys zs : List Step) (x : Step) (k : ChangeKind) (v : Text) → xs ≡ ys ++ (x ∷ zs) → roleIn s x ≡ change i k v
       → changeAt (filled (listOf s c i table .rows) table) (count s i ys) ≡ Change.Is (lastTime s Since.None ys) (x .to .line) k v
-  -- the words behind these rows are as they were
+  -- the words after these rows are as they were
   pub rest : drop (6 * count s i xs) (filled (listOf s c i table .rows) table) ≡ drop (6 * count s i xs) table

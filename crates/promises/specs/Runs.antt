@@ -8,11 +8,11 @@ use Rattle.scope.specs.declared.ReferenceIndex.{ReferenceIndex}
 use Rattle.scope.specs.declared.VarType.{VarType}
 use Rattle.command.specs.Meaning.{Meaning, meaning}
 use Rattle.command.specs.declared.Command.{Command}
-use Rattle.header.specs.Good.{isGoodTable}
-use Rattle.header.specs.Rows.{rowsOf}
+use Rattle.rows.specs.Good.{isGoodTable}
+use Rattle.rows.specs.Rows.{rowsOf}
 use Rattle.header.specs.declared.Header.{Header}
 use Rattle.header.specs.declared.KeptTimescale.{KeptTimescale}
-use Rattle.header.specs.declared.rows.Row.{Row}
+use Rattle.rows.specs.declared.Row.{Row}
 use Rattle.write.specs.Call.{newVar}
 use Rattle.write.specs.Run.{SizedIndex, Sized, taken, Effect, effect}
 use Rattle.write.specs.declared.Writer.{Writer}

@@ -12,19 +12,21 @@ use Rattle.idcode.specs.declared.IdCode.{IdCode}
 use Rattle.idcode.specs.declared.Parsed.{Parsed}
 use Rattle.scope.specs.declared.ReferenceIndex.{ReferenceIndex}
 use Rattle.scope.specs.declared.VarType.{VarType}
-use Rattle.command.specs.Meaning.{Meaning, remark, timescale, scopeDef, upscope, varDef, enddefinitions, timestamp, change, scalar, begin, end, meaning, remarkName, openAfter}
+use Rattle.command.specs.Meaning.{Meaning, remark, timescale, scopeDef, upscope, varDef, enddefinitions, timestamp, change, scalar, begin, end, meaning, remarkWord, openAfter}
+use Rattle.command.specs.Words.{spoken, endMark}
 use Rattle.command.specs.declared.Command.{Command}
 use Rattle.command.specs.declared.Open.{Open}
 use Rattle.command.specs.declared.Refusal.{Refusal}
 use Rattle.token.specs.Read.{Valid, after, rest}
 use Rattle.token.specs.declared.Cursor.{Cursor}
-use Rattle.parser.specs.Plan.{withOpen}
+use Rattle.parser_part.specs.Plan.{withOpen}
 use Rattle.parser.specs.Next.{nextFrom, fresh as start}
 use Rattle.parser.specs.All.{said, says, readAll, exactly}
-use Rattle.parser.specs.declared.Next.{Next}
-use Rattle.header.specs.Rows.{rowsOf}
+use Rattle.parser_part.specs.declared.Next.{Next}
+use Rattle.rows.specs.Rows.{rowsOf}
 use Rattle.header.specs.declared.Header.{Header}
-use Rattle.write.specs.Call.{Outcome, refusal, outside, call, Does, newVar, Adds}
+use Rattle.text.specs.Texts.{limit, outside}
+use Rattle.write.specs.Call.{Outcome, refusal, call, Does, newVar, Adds}
 use Rattle.write.specs.Layout.{layout, writable, fresh}
 use Rattle.write.specs.Run.{layouts, Sized, Accepted}
 use Rattle.write.specs.declared.Added.{Added}
@@ -35,9 +37,9 @@ use Rattle.write_header.specs.Written.{Outcome as HeaderOutcome, headerCall, Do
 use Rattle.write_header.specs.declared.HeaderWritten.{HeaderWritten}
 use Rattle.listing.specs.Listing.{change as changeTold}
 use Rattle.listing.specs.declared.Ended.{Ended}
-use Rattle.listing.specs.declared.rows.ChangeKind.{ChangeKind}
+use Rattle.listing.specs.declared.changes.ChangeKind.{ChangeKind}
 use Rattle.promises.specs.Runs.{SizedTable, SizedScale, Call, header, effectOf, Ran, runs}
-use Rattle.promises.specs.Listed.{Step, Steps, Stops, tells, count, Holds}
+use Rattle.promises.specs.Listed.{Step, Steps, Stops, roleIn, count, Holds}
 
 -- a layout in two parts: what reading its command leaves to the next read, the newline after a comment's `$end`; and before it what reading takes
 abbrev pub due : Meaning → List ℕ
@@ -53,7 +55,7 @@ due (begin k) = []
 due (end k) = []
 
 abbrev pub core : Meaning → List ℕ
-core (remark k t) = bytes "$" ++ (bytes (remarkName k) ++ (bytes "\n" ++ ((bytes "    " ++ t) ++ bytes "\n$end")))
+core (remark k t) = spoken (remarkWord k) ++ (bytes "\n" ++ ((bytes "    " ++ t) ++ (bytes "\n" ++ endMark)))
 core (timescale n u) = layout (timescale n u)
 core (scopeDef k t) = layout (scopeDef k t)
 core upscope = layout upscope
@@ -64,20 +66,20 @@ core (change i v) = layout (change i v)
 core (begin k) = layout (begin k)
 core (end k) = layout (end k)
 
--- the cursor behind a command of this meaning that stands after the blanks g: past what reading it takes, with what is then open
-abbrev pub behind : List ℕ → Meaning → Cursor → Cursor
-behind g m c = let e : Cursor = after (g ++ core m) c in withOpen e (openAfter m (e .sim))
+-- the cursor after a command of this meaning that stands after the blanks g: past what reading it takes, with what is then open
+abbrev pub cursorAfter : List ℕ → Meaning → Cursor → Cursor
+cursorAfter g m c = let e : Cursor = after (g ++ core m) c in withOpen e (openAfter m (e .sim))
 
 -- One command: where the layout of a writable command stands, after blanks and before anything, and the same simulation command is
 -- open, the next command is that one. The line does not matter.
 abbrev pub OneBack : Type 0
 OneBack =
     (m : Meaning) (w : Writer) (s g r : List ℕ) (c : Cursor) → writable w m ≡ true → Sized m → Valid s c → c .sim ≡ w .sim → allBlank g ≡ true
-    → rest s c ≡ g ++ (layout m ++ r) → says s (nextFrom s c) ≡ said m (behind g m c)
+    → rest s c ≡ g ++ (layout m ++ r) → says s (nextFrom s c) ≡ said m (cursorAfter g m c)
 
 -- Commands that a new writer accepts in order: their layouts read back as exactly these, then the end.
 abbrev pub WrittenRead : Type 0
-WrittenRead = (ms : List Meaning) → Accepted fresh ms → length (layouts ms) ≤ 4294967295 → readAll (layouts ms) start ≡ exactly ms
+WrittenRead = (ms : List Meaning) → Accepted fresh ms → length (layouts ms) ≤ limit → readAll (layouts ms) start ≡ exactly ms
 
 -- What calls leave: the file is the layouts of the accepted commands, and each of these might be written in its turn.
 pub record Joined (w : Writer) (x : Ran) : Type 0 where
@@ -97,7 +99,7 @@ HeaderWhole =
 
 -- Any calls of a new writer, refused ones among them: the file reads back as exactly the accepted commands, then the end.
 abbrev pub RoundTrip : Type 0
-RoundTrip = (cs : List Call) → length (runs fresh cs .file) ≤ 4294967295 → readAll (runs fresh cs .file) start ≡ exactly (runs fresh cs .accepted)
+RoundTrip = (cs : List Call) → length (runs fresh cs .file) ≤ limit → readAll (runs fresh cs .file) start ≡ exactly (runs fresh cs .accepted)
 
 -- Rewriting: a command that was read and that the writer accepts at its state w is read again, from what was written, as the same
 -- command: from any good cursor where the same simulation command is open, after blanks and before anything.
@@ -105,19 +107,19 @@ abbrev pub Rewritten : Type 0
 Rewritten =
     (s : List ℕ) (c d : Cursor) (k : Command) (w : Writer) (t g r : List ℕ) (e : Cursor) → nextFrom s c ≡ Next.Command k d → writable w (meaning s k) ≡ true
     → Valid t e → e .sim ≡ w .sim → allBlank g ≡ true → rest t e ≡ g ++ (layout (meaning s k) ++ r)
-    → says t (nextFrom t e) ≡ said (meaning s k) (behind g (meaning s k) e)
+    → says t (nextFrom t e) ≡ said (meaning s k) (cursorAfter g (meaning s k) e)
 
 -- the same of the call that writes it to an output, by its answer
 abbrev pub RewrittenCall : Type 0
 RewrittenCall =
     (s : List ℕ) (c d : Cursor) (k : Command) (w v : Writer) (out : List ℕ) (n : ℕ) (t g r : List ℕ) (e : Cursor) → nextFrom s c ≡ Next.Command k d
     → call w s k out .answer ≡ Written.Bytes n v → Valid t e → e .sim ≡ w .sim → allBlank g ≡ true → rest t e ≡ g ++ (take n (call w s k out .left) ++ r)
-    → (says t (nextFrom t e) ≡ said (meaning s k) (behind g (meaning s k) e)) × (behind g (meaning s k) e .sim ≡ v .sim)
+    → (says t (nextFrom t e) ≡ said (meaning s k) (cursorAfter g (meaning s k) e)) × (cursorAfter g (meaning s k) e .sim ≡ v .sim)
 
 -- the same of a whole input: where every command that was read was accepted, the file that was written is read as the input was
 abbrev pub RewrittenFile : Type 0
 RewrittenFile =
-    (s : List ℕ) (c : Cursor) (cs : List Call) → readAll s c ≡ exactly (runs fresh cs .accepted) → length (runs fresh cs .file) ≤ 4294967295
+    (s : List ℕ) (c : Cursor) (cs : List Call) → readAll s c ≡ exactly (runs fresh cs .accepted) → length (runs fresh cs .file) ≤ limit
     → readAll (runs fresh cs .file) start ≡ readAll s c
 
 -- Ids: the codes 0 to 2^64 - 2 and the accepted texts are paired one to one, over the sum.
@@ -130,7 +132,7 @@ pub record IdsPaired : Type 0 where
   pub sum : (s : List ℕ) (i : IdCode) → parseId s ≡ Parsed.Code i → idSum s ≡ i .0 + 1
   pub below : (s : List ℕ) (i : IdCode) → parseId s ≡ Parsed.Code i → i .0 < 2 ^ 64 - 1
 
--- Listing: from any cursor reading stops, behind some commands, at the end or by a refusal.
+-- Listing: from any cursor reading stops, after some commands, at the end or by a refusal.
 abbrev pub ReadingStops : Type 0
 ReadingStops = (s : List ℕ) (c : Cursor) → (xs : List Step) × (d : Cursor) × (e : Ended) × (f : Cursor) × Steps s c xs d × Stops s d e f
 
@@ -147,7 +149,7 @@ pub record Beyond (s : List ℕ) (i : IdCode) (room : ℕ) (xs ys : List Step) (
   pub kind : ChangeKind
   pub value : Text
   pub splits : xs ≡ ys ++ (x ∷ later)
-  pub is : tells s x ≡ changeTold i kind value
+  pub is : roleIn s x ≡ changeTold i kind value
   pub before : count s i ys ≡ room
 
 -- With too little it holds those before that change, and ends by 24 with the cursor as it stood before it.
@@ -194,6 +196,6 @@ pub record WriterPoints : Type 0 where
   pub line : (readAll (bytes "1n999999999\n") start ≡ exactly (change far (scalar Value.V1) ∷ [])) × (layout (change far (scalar Value.V1)) ≡ bytes "1n999999999\n")
 
 -- ---- refusals of reading
--- the line that one tells is that of the cursor it returns
+-- the line that one roleIn is that of the cursor it returns
 abbrev pub RefusalLine : Type 0
 RefusalLine = (s : List ℕ) (c : Cursor) (e : Refusal) (n : ℕ) (d : Cursor) → nextFrom s c ≡ Next.Refused e n d → n ≡ d .line

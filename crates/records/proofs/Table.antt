@@ -1,37 +1,20 @@
--- Laws of records: nine words each, stored word by word, and one record stored behind the others.
-use Prim.Native.Nat.{ℕ, suc, _+_, _*_, _≤_, _<_}
+-- Laws of tables of records: nine words each, and one record stored after the others.
+use Prim.Native.Nat.{ℕ, _+_, _*_, _≤_}
 use mathlib.Core.Path.{_≡_, refl, sym, ap, _∙_}
 use mathlib.Core.List.{List, [], _∷_, _++_, append-assoc, append-nil}
 use native.Mathlib.Nat.{add-zero}
 use native.Mathlib.Omega.{arith}
-use lib.ListN.{length, set, take, drop, length-append, length-take, length-drop}
-use lib.Seq.{sets, lt-length-sets, sets-eq, take-at, drop-append-add, drop-drop}
+use lib.ListN.{length, drop, length-append, length-take, length-drop}
+use lib.Seq.{take-at, drop-append-add, drop-drop}
 use Rattle.command.specs.declared.Command.{Command}
-use Rattle.header.proofs.Words.{three}
-use Rattle.records.specs.Records.{recordWords, wordsOf, putAt, put}
+use Rattle.record.specs.Record.{recordOf, recordWords, wordsOf, putAt, put}
+use Rattle.record.proofs.Words.{nine}
 use Rattle.records.specs.Read.{filled, puts}
-
-pub nine : (k : Command) → length (recordWords k) ≡ 9
-nine (Command.Comment t) = refl
-nine (Command.Date t) = refl
-nine (Command.Version t) = refl
-nine (Command.Timescale n u) = refl
-nine (Command.ScopeDef k t) = refl
-nine Command.Upscope = refl
-nine (Command.VarDef k n i t x) = rw (three x)
-nine Command.Enddefinitions = refl
-nine (Command.Timestamp t) = refl
-nine (Command.ChangeScalar i v) = refl
-nine (Command.ChangeVector i t) = refl
-nine (Command.ChangeReal i t) = refl
-nine (Command.ChangeString i t) = refl
-nine (Command.Begin k) = refl
-nine (Command.End k) = refl
 
 pub all-length : (ks : List Command) → length (wordsOf ks) ≡ 9 * length ks
 unfolding wordsOf
 all-length [] = refl
-all-length (k ∷ ks) = omega (arith, length-append (recordWords k) (wordsOf ks), nine k, all-length ks)
+all-length (k ∷ ks) = omega (arith, length-append (recordWords k) (wordsOf ks), nine (recordOf k), all-length ks)
 
 words-join : (x y : List Command) → wordsOf (x ++ y) ≡ wordsOf x ++ wordsOf y
 unfolding wordsOf
@@ -39,7 +22,7 @@ words-join [] y = refl
 words-join (k ∷ x) y =
     ap (λ (l : List ℕ). recordWords k ++ l) (words-join x y) ∙ sym (append-assoc (recordWords k) (wordsOf x) (wordsOf y))
 
--- the record behind those that are there
+-- the record after those that are there
 put-next : (ks : List Command) (k : Command) (t : List ℕ) (n : ℕ) → length ks ≡ n
     → put (filled ks t) n (recordWords k) ≡ filled (ks ++ (k ∷ [])) t
 unfolding putAt wordsOf
@@ -59,7 +42,7 @@ put-next ks k t n e =
 -- ---- the records of some commands
 put-length : (t : List ℕ) (n : ℕ) (k : Command) → 9 * n + 9 ≤ length t → length (put t n (recordWords k)) ≡ length t
 unfolding putAt
-put-length t n k h = simp (length-append, length-take, length-drop) (omega (arith, nine k))
+put-length t n k h = simp (length-append, length-take, length-drop) (omega (arith, nine (recordOf k)))
 
 pub puts-length : (ks : List Command) (t : List ℕ) (n : ℕ) → 9 * (n + length ks) ≤ length t → length (puts t n ks) ≡ length t
 puts-length [] t n h = refl
@@ -82,26 +65,3 @@ puts-next x (k ∷ y) t =
 pub puts-filled : (ks : List Command) (t : List ℕ) → puts t 0 ks ≡ filled ks t
 unfolding wordsOf
 puts-filled ks t = puts-next [] ks t
-
--- words stored one by one, from i + j on
-abbrev written : List ℕ → (i j : ℕ) → List ℕ → List ℕ
-written m i j [] = m
-written m i j (a ∷ w) = written (set m (i + j) a) i (suc j) w
-
-written-are : (m : List ℕ) (i j : ℕ) (w : List ℕ) → written m i j w ≡ sets m (i + j) w
-written-are m i j [] = refl
-written-are m i j (a ∷ w) = let e : i + suc j ≡ suc (i + j) = omega arith in written-are (set m (i + j) a) i (suc j) w ∙ rw e
-
-module _ (m : List ℕ) (at : ℕ) (h : at + 9 ≤ length m) (k : ℕ) (w : List ℕ) where
-  begun : written (set m at k) at 1 w ≡ sets m at (k ∷ w)
-  begun = let e : at + 1 ≡ suc at = omega arith in written-are (set m at k) at 1 w ∙ rw e
-
-  -- there is room for the words behind them
-  pub room : (j : ℕ) → j < 9 → at + j < length (written (set m at k) at 1 w)
-  room j l = rw begun (lt-length-sets m at (k ∷ w) (omega arith))
-
-  pub stored : length w ≡ 8 → written (set m at k) at 1 w ≡ putAt m at (k ∷ w)
-  unfolding putAt
-  stored e =
-      let l : at + length (k ∷ w) ≡ at + 9 = omega arith in
-      begun ∙ sets-eq (k ∷ w) m at (omega arith) ∙ rw l (append-assoc (take at m) (k ∷ w) (drop (at + 9) m))

@@ -11,38 +11,38 @@ use Rattle.command.specs.declared.Command.{Command}
 use Rattle.command.specs.declared.Refusal.{Refusal}
 use Rattle.parser.specs.All.{followed, commands}
 use Rattle.parser.specs.Next.{isGood, nextFrom}
-use Rattle.parser.specs.declared.Next.{Next}
+use Rattle.parser_part.specs.declared.Next.{Next}
 use Rattle.parser.proofs.Ahead.{command-past}
 use Rattle.parser.proofs.All.{commands-step}
-use Rattle.brief.specs.Brief.{Reads}
+use Rattle.fast.specs.Fast.{Reads}
 use Rattle.token.specs.Flat.{wordRead}
 use Rattle.token.specs.Read.{Valid}
 use Rattle.token.specs.declared.Cursor.{Cursor}
-use Rattle.records.specs.Records.{recordWords, wordsOf, putAt, put}
-use Rattle.records.specs.Read.{Outcome, ends, taken, readOf, answerOf, filled, stepOf, behind, Inside, tableOf, joined, Ran}
+use Rattle.record.specs.Record.{recordWords, wordsOf, putAt, put}
+use Rattle.records.specs.Read.{Outcome, ends, taken, readOf, answerOf, filled, stepOf, asSlow, Inside, tableOf, joined, Ran}
 use Rattle.records.specs.declared.Ended.{Ended}
 use Rattle.records.specs.declared.ReadAnswer.{ReadAnswer}
 use Rattle.records.specs.declared.Step.{Step}
 use Rattle.records.proofs.Table.{puts-length, puts-join, puts-filled}
 
--- ---- one step: a command that a quick look told, or the plain one
+-- ---- one step: a hit on the fast path, or the slow path
 module _ (s : List ℕ) (c : Cursor) where
-  pub quick-step : Valid s c → (e : ℕ) (k : Command) → Reads s (c .place) e k → (table t : List ℕ) (n : ℕ) → t ≡ put table n (recordWords k)
-      → (behind s c (Step.Quick e) ≡ stepOf (nextFrom s c)) × Inside s (Step.Quick e) × (t ≡ tableOf (nextFrom s c) table n)
-  quick-step v e k h table t n q = rw (h .reads c v refl) (refl, h .inside, q)
+  pub hit-step : Valid s c → (e : ℕ) (k : Command) → Reads s (c .place) e k → (table t : List ℕ) (n : ℕ) → t ≡ put table n (recordWords k)
+      → (asSlow s c (Step.Hit e) ≡ stepOf (nextFrom s c)) × Inside s (Step.Hit e) × (t ≡ tableOf (nextFrom s c) table n)
+  hit-step v e k h table t n q = rw (h .reads c v refl) (refl, h .inside, q)
 
-  plain-told : (x : Next) → (behind s c (stepOf x) ≡ stepOf x) × Inside s (stepOf x)
-  plain-told (Next.Command k d) = (refl, tt)
-  plain-told (Next.Refused e line d) = (refl, tt)
-  plain-told (Next.Done d) = (refl, tt)
+  slow-told : (x : Next) → (asSlow s c (stepOf x) ≡ stepOf x) × Inside s (stepOf x)
+  slow-told (Next.Command k d) = (refl, tt)
+  slow-told (Next.Refused e line d) = (refl, tt)
+  slow-told (Next.Done d) = (refl, tt)
 
-  pub plain-step : (r : Step) (table t : List ℕ) (n : ℕ) → (r ≡ stepOf (nextFrom s c)) × (t ≡ tableOf (nextFrom s c) table n)
-      → (behind s c r ≡ stepOf (nextFrom s c)) × Inside s r × (t ≡ tableOf (nextFrom s c) table n)
-  plain-step r table t n h = let q = plain-told (nextFrom s c) in rw (h .0) (q .0, q .1, h .1)
+  pub slow-step : (r : Step) (table t : List ℕ) (n : ℕ) → (r ≡ stepOf (nextFrom s c)) × (t ≡ tableOf (nextFrom s c) table n)
+      → (asSlow s c r ≡ stepOf (nextFrom s c)) × Inside s r × (t ≡ tableOf (nextFrom s c) table n)
+  slow-step r table t n h = let q = slow-told (nextFrom s c) in rw (h .0) (q .0, q .1, h .1)
 
--- what a step tells of the answer that it was made of; of a quick one, its `behind` tells
+-- what a step says of the answer that it was made of; of a hit, its `asSlow` says it
 abbrev pub Stepped : Next → Step → Type 0
-Stepped x (Step.Quick e) = Unit {0}
+Stepped x (Step.Hit e) = Unit {0}
 Stepped x (Step.Read d) = (k : Command) × (x ≡ Next.Command k d)
 Stepped x (Step.Ends d e) =
     ((s : List ℕ) (c : Cursor) (m : ℕ) → taken (suc m) c (followed (commands s) x) ≡ ends d e) × ((t : List ℕ) (n : ℕ) → tableOf x t n ≡ t)
@@ -53,8 +53,8 @@ stepped (Next.Command k d) = (k, refl)
 stepped (Next.Refused e line d) = (λ s c m. refl, λ t n. refl)
 stepped (Next.Done d) = (λ s c m. refl, λ t n. refl)
 
-pub told : (s : List ℕ) (c : Cursor) (x : Next) (r q : Step) → behind s c r ≡ stepOf x → r ≡ q → Stepped x (behind s c q)
-told s c x r q e h = rw (sym e ∙ ap (behind s c) h) at (stepped x)
+pub told : (s : List ℕ) (c : Cursor) (x : Next) (r q : Step) → asSlow s c r ≡ stepOf x → r ≡ q → Stepped x (asSlow s c q)
+told s c x r q e h = rw (sym e ∙ ap (asSlow s c) h) at (stepped x)
 
 -- ---- a run of steps
 abbrev ahead : ℕ → List ℕ → Cursor → Outcome
@@ -104,7 +104,7 @@ module _ (s : List ℕ) (c : Cursor) (n : ℕ) (t : List ℕ) (d : Cursor) (m : 
         past = omega (arith, p .1);
       })
 
--- ---- a run of quick looks on its way: `at` is the next record's first word, and what is left of it has room in the table and the input
+-- ---- a run of the fast path on its way: `at` is the next record's first word, and what is left of it has room in the table and the input
 pub record Runs (s : List ℕ) (c : Cursor) (n : ℕ) (t : List ℕ) (stop : ℕ) (d : Cursor) (at : ℕ) (u : List ℕ) : Type 0 where
   pub count : ℕ
   pub left : ℕ

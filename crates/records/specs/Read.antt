@@ -8,11 +8,11 @@ use Rattle.command.specs.declared.Command.{Command}
 use Rattle.command.specs.declared.Refusal.{Refusal}
 use Rattle.parser.specs.All.{Commands, command, stop, finish, commands}
 use Rattle.parser.specs.Next.{isGood}
-use Rattle.parser.specs.declared.Next.{Next}
+use Rattle.parser_part.specs.declared.Next.{Next}
 use Rattle.token.specs.Flat.{wordRead}
 use Rattle.token.specs.Read.{Valid}
 use Rattle.token.specs.declared.Cursor.{Cursor}
-use Rattle.records.specs.Records.{recordWords, wordsOf, put}
+use Rattle.record.specs.Record.{recordWords, wordsOf, put}
 use Rattle.records.specs.declared.Ended.{Ended}
 use Rattle.records.specs.declared.ReadAnswer.{ReadAnswer}
 use Rattle.records.specs.declared.Step.{Step}
@@ -54,14 +54,14 @@ stepOf (Next.Command k d) = Step.Read d
 stepOf (Next.Refused e line d) = Step.Ends d (Ended.Refused e line)
 stepOf (Next.Done d) = Step.Ends d Ended.Whole
 
--- a quick step tells only where the blank stands that ends the command
-abbrev pub behind : List ℕ → Cursor → Step → Step
-behind s c (Step.Quick e) = Step.Read (wordRead c e (getD s e 0))
-behind s c (Step.Read d) = Step.Read d
-behind s c (Step.Ends d e) = Step.Ends d e
+-- a hit answers only the place of the blank that ends the command
+abbrev pub asSlow : List ℕ → Cursor → Step → Step
+asSlow s c (Step.Hit e) = Step.Read (wordRead c e (getD s e 0))
+asSlow s c (Step.Read d) = Step.Read d
+asSlow s c (Step.Ends d e) = Step.Ends d e
 
 abbrev pub Inside : List ℕ → Step → Type 0
-Inside s (Step.Quick e) = e < length s
+Inside s (Step.Hit e) = e < length s
 Inside s (Step.Read d) = Unit {0}
 Inside s (Step.Ends d e) = Unit {0}
 

@@ -1,14 +1,9 @@
 // What the replay programs share: the stream of cases that they read, and the canonical form of docs/ORACLE.md that they print.
 // Nothing is promised of these but that they are safe and end: what they print is held to the oracle's answers.
-use command::Open;
-use idcode::IdCode;
+pub mod line;
+
 use number::Number;
-use scope::ReferenceIndex;
-use scope::ScopeType;
-use scope::VarType;
-use text::Spelled;
 use text::Text;
-use timescale::TimescaleUnit;
 ghost use Prim.Native.Nat.{_≤_, _<_};
 pub use console::front;
 pub use console::least;
@@ -16,6 +11,12 @@ pub use console::put;
 pub use console::put_byte;
 pub use console::read_input;
 pub use console::write_front;
+pub use line::put_case;
+pub use line::put_number;
+pub use line::put_open;
+pub use line::put_text;
+pub use line::put_values;
+pub use line::put_word;
 
 // The bytes of a case, by place; or the end of the stream.
 pub enum Case {
@@ -58,8 +59,8 @@ fn case_in(input: &[u8], start: usize, len: usize) -> Case {
     Case::At(Text { start, len })
 }
 
-// The place behind a case and its LF; the end where that is past it.
-pub fn behind(input: &[u8], t: Text) -> usize {
+// The place after a case and its LF; the end where that is past it.
+pub fn after(input: &[u8], t: Text) -> usize {
     let start = t.start;
     let len = t.len;
     if input.len() <= start {
@@ -77,7 +78,7 @@ pub struct Fed {
     pub have: usize,
 }
 
-// The case at `at`; where the buffer has not the whole of it, the rest is read on behind what is there of it.
+// The case at `at`; where the buffer has not the whole of it, the rest is read after what is there of it.
 pub fn next_case(buf: &mut [u8], at: usize, have: usize) -> Fed {
     let case = case_at(front(buf, have), at);
     if let Case::At(_) = case {
@@ -141,129 +142,34 @@ pub fn span(s: &[u8], b: u8) -> usize {
     n
 }
 
+// The words of a line from the k-th on, counted from 0. One space stands after each but the last.
+pub fn words_from(line: &[u8], k: u64) -> &[u8] {
+    let mut left = k;
+    let mut i = 0;
+    while i < line.len() {
+        if left == 0 {
+            return &line[i..];
+        }
+        if line[i] == b' ' {
+            left -= 1;
+        }
+        i += 1;
+    }
+    &line[i..]
+}
+
+// The k-th word of a line.
+pub fn word(line: &[u8], k: u64) -> &[u8] {
+    let rest = words_from(line, k);
+    front(rest, span(rest, b' '))
+}
+
 // The number that a text means; 0 where it means none.
 pub fn number_in(s: &[u8]) -> u64 {
     let n = number::parse_u64(s);
     match n {
         Number::Is(v) => v,
         Number::Refused => 0,
-    }
-}
-
-// The line that begins a case's answer.
-pub fn put_case(out: &mut [u8], at: usize, number: u64) -> usize {
-    let o = put(out, at, b"case");
-    let p = put_number(out, o, number);
-    put_byte(out, p, b'\n')
-}
-
-// A space and the short text.
-pub fn put_word(out: &mut [u8], at: usize, word: Spelled) -> usize {
-    let bytes = word.bytes;
-    let len = word.len;
-    let mut o = put_byte(out, at, b' ');
-    let mut i: usize = 0;
-    while i < 32 {
-        if len <= i {
-            return o;
-        }
-        o = put_byte(out, o, bytes[i]);
-        i += 1;
-    }
-    o
-}
-
-// A space and the number.
-pub fn put_number(out: &mut [u8], at: usize, n: u64) -> usize {
-    put_word(out, at, number::decimal(n))
-}
-
-// A space, `"`, and the bytes: 33 to 126 but the backslash as themselves, others as `\xNN`.
-pub fn put_text(out: &mut [u8], at: usize, text: &[u8]) -> usize {
-    let mut o = put(out, at, b" \"");
-    let mut i = 0;
-    while i < text.len() {
-        o = put_escaped(out, o, text[i]);
-        i += 1;
-    }
-    o
-}
-
-fn put_escaped(out: &mut [u8], at: usize, b: u8) -> usize {
-    if 32 < b && b < 127 && b != b'\\' {
-        return put_byte(out, at, b);
-    }
-    let o = put(out, at, b"\\x");
-    let p = put_byte(out, o, hex(b / 16));
-    put_byte(out, p, hex(b % 16))
-}
-
-fn hex(n: u8) -> u8 {
-    let d = n % 16;
-    if d < 10 { b'0' + d } else { b'a' + (d - 10) }
-}
-
-// A space and the values in lower case.
-pub fn put_values(out: &mut [u8], at: usize, text: &[u8]) -> usize {
-    let mut o = put_byte(out, at, b' ');
-    let mut i = 0;
-    while i < text.len() {
-        o = put_byte(out, o, value::vector::lowered(text[i]));
-        i += 1;
-    }
-    o
-}
-
-// A space and the index, or `-`.
-pub fn put_index(out: &mut [u8], at: usize, x: ReferenceIndex) -> usize {
-    match x {
-        ReferenceIndex::None => put(out, at, b" -"),
-        ReferenceIndex::BitSelect(_) => put_word(out, at, x.spell()),
-        ReferenceIndex::Range(_, _) => put_word(out, at, x.spell()),
-    }
-}
-
-// A name and the text at a place of `s`. Likewise a scope, a variable and a timescale.
-pub fn put_named(out: &mut [u8], at: usize, name: &[u8], s: &[u8], t: Text) -> usize {
-    let o = put(out, at, name);
-    put_text(out, o, text::part(s, t))
-}
-
-pub fn put_scope(out: &mut [u8], at: usize, k: ScopeType, s: &[u8], t: Text) -> usize {
-    let o = put(out, at, b"scope");
-    let p = put_word(out, o, k.spell());
-    put_text(out, p, text::part(s, t))
-}
-
-pub fn put_var(
-    out: &mut [u8],
-    at: usize,
-    k: VarType,
-    width: u32,
-    id: IdCode,
-    s: &[u8],
-    t: Text,
-    x: ReferenceIndex,
-) -> usize {
-    let o = put(out, at, b"var");
-    let p = put_word(out, o, k.spell());
-    let q = put_number(out, p, width as u64);
-    let r = put_number(out, q, id.0);
-    let u = put_text(out, r, text::part(s, t));
-    put_index(out, u, x)
-}
-
-pub fn put_timescale(out: &mut [u8], at: usize, n: u32, unit: TimescaleUnit) -> usize {
-    let o = put(out, at, b"timescale");
-    let p = put_number(out, o, n as u64);
-    put_word(out, p, unit.spell())
-}
-
-// A space and the open simulation command's name, or `-`.
-pub fn put_open(out: &mut [u8], at: usize, o: Open) -> usize {
-    match o {
-        Open::None => put(out, at, b" -"),
-        Open::Of(k) => put_word(out, at, k.spell()),
     }
 }
 

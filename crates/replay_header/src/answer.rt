@@ -1,17 +1,23 @@
-// The answer to one case: the header's rows, what it kept, and how it ended. The words lent are filled beforehand, and those behind
+// The answer to one case: the header's rows, what it kept, and how it ended. The words lent are filled beforehand, and those after
 // the rows must stay.
 use header::Ended;
 use header::Header;
 use header::HeaderAnswer;
 use header::KeptText;
 use header::KeptTimescale;
-use header::Parent;
-use header::Row;
-use header::WORDS;
+use replay::line;
+use replay::line::Line;
+use replay::line::Shown;
+use replay::line::Word;
 use replay::put;
 use replay::put_byte;
-use replay::put_named;
 use replay::put_number;
+use replay::put_word;
+use rows::Parent;
+use rows::Row;
+use rows::WORDS;
+use scope::Var;
+use text::Spelled;
 use text::Text;
 use token::Cursor;
 ghost use Prim.Native.Nat.{_≤_};
@@ -29,7 +35,7 @@ pub fn answer(case: &[u8], number: u64, table: &mut [u64], out: &mut [u8], at: u
     let head = replay::line_at(case, 0);
     let rows = replay::number_in(text::part(case, head));
     let lent = replay::least(words_of(rows as usize) + ODD, table.len());
-    let start = replay::behind(case, head);
+    let start = replay::after(case, head);
     let dump = text::part(
         case,
         Text {
@@ -87,7 +93,7 @@ fn put_answer(out: &mut [u8], at: usize, s: &[u8], table: &[u64], a: HeaderAnswe
     let c = a.cursor;
     let o = put_rows(out, at, s, table, a.count);
     let p = put_kept(out, o, s, h);
-    let q = put_ended(out, p, e, c);
+    let q = put_ended(out, p, s, e, c);
     if is_marked(table, words_of(a.count)) {
         return replay::flush(out, q);
     }
@@ -98,42 +104,64 @@ fn put_rows(out: &mut [u8], at: usize, s: &[u8], table: &[u64], count: usize) ->
     let mut o = at;
     let mut i: usize = 0;
     while i < count {
-        o = put_row(out, o, s, header::row_at(table, i));
+        o = put_row(out, o, s, rows::row_at(table, i));
         o = replay::flush(out, o);
         i += 1;
     }
     o
 }
 
+// The line of a row and its parent.
 fn put_row(out: &mut [u8], at: usize, s: &[u8], row: Row) -> usize {
+    let o = line::put_line(out, at, s, row_line(row));
+    let p = put_word(out, o, parent_word(row));
+    put_byte(out, p, b'\n')
+}
+
+fn row_line(row: Row) -> Line {
     match row {
-        Row::Scope(p, k, t) => {
-            let o = replay::put_scope(out, at, k, s, t);
-            put_parent(out, o, p)
-        }
-        Row::Var(p, v) => {
-            let k = v.var_type;
-            let id = v.code;
-            let t = v.reference;
-            let x = v.index;
-            let o = replay::put_var(out, at, k, v.size, id, s, t, x);
-            put_parent(out, o, p)
-        }
-        Row::Comment(p, t) => {
-            let o = put_named(out, at, b"comment", s, t);
-            put_parent(out, o, p)
-        }
-        Row::None => put(out, at, b"no row\n"),
+        Row::Scope(_, k, t) => Line {
+            name: line::SCOPE,
+            kind: Word::Scope(k),
+            first: Word::None,
+            second: Word::None,
+            shown: Shown::Text(t),
+            last: Word::None,
+        },
+        Row::Var(_, v) => var_line(v),
+        Row::Comment(_, t) => line::texted(line::COMMENT, t),
+        Row::None => line::bare(line::NONE),
     }
 }
 
-fn put_parent(out: &mut [u8], at: usize, p: Parent) -> usize {
+fn var_line(v: Var) -> Line {
+    let kind = v.var_type;
+    let id = v.code;
+    let name = v.reference;
+    let index = v.index;
+    Line {
+        name: line::VAR,
+        kind: Word::Var(kind),
+        first: Word::Number(v.size as u64),
+        second: Word::Number(id.0),
+        shown: Shown::Text(name),
+        last: Word::Index(index),
+    }
+}
+
+fn parent_word(row: Row) -> Spelled {
+    match row {
+        Row::Scope(p, _, _) => spell_parent(p),
+        Row::Var(p, _) => spell_parent(p),
+        Row::Comment(p, _) => spell_parent(p),
+        Row::None => text::spell(b""),
+    }
+}
+
+fn spell_parent(p: Parent) -> Spelled {
     match p {
-        Parent::Top => put(out, at, b" top\n"),
-        Parent::Of(n) => {
-            let o = put_number(out, at, n.0);
-            put_byte(out, o, b'\n')
-        }
+        Parent::Top => text::spell(b"top"),
+        Parent::Of(n) => number::decimal(n.0),
     }
 }
 
@@ -141,55 +169,60 @@ fn put_kept(out: &mut [u8], at: usize, s: &[u8], h: Header) -> usize {
     let date = h.date;
     let version = h.version;
     let timescale = h.timescale;
-    let o = put_kept_text(out, at, b"date", s, date);
-    let p = put_kept_text(out, o, b"version", s, version);
-    put_kept_timescale(out, p, timescale)
+    let o = put_whole(out, at, s, text_line(line::DATE, date));
+    let p = put_whole(out, o, s, text_line(line::VERSION, version));
+    put_whole(out, p, s, timescale_line(timescale))
 }
 
-fn put_kept_timescale(out: &mut [u8], at: usize, k: KeptTimescale) -> usize {
+// A line and its LF.
+fn put_whole(out: &mut [u8], at: usize, s: &[u8], line: Line) -> usize {
+    let o = line::put_line(out, at, s, line);
+    put_byte(out, o, b'\n')
+}
+
+fn text_line(name: u64, k: KeptText) -> Line {
     match k {
-        KeptTimescale::None => put(out, at, b"timescale -\n"),
-        KeptTimescale::Is(n, unit) => {
-            let o = replay::put_timescale(out, at, n, unit);
-            put_byte(out, o, b'\n')
-        }
+        KeptText::None => line::worded(name, Word::Dash),
+        KeptText::Is(t) => line::texted(name, t),
     }
 }
 
-fn put_kept_text(out: &mut [u8], at: usize, name: &[u8], s: &[u8], k: KeptText) -> usize {
+fn timescale_line(k: KeptTimescale) -> Line {
     match k {
-        KeptText::None => {
-            let o = put(out, at, name);
-            put(out, o, b" -\n")
-        }
-        KeptText::Is(t) => {
-            let o = put_named(out, at, name, s, t);
-            put_byte(out, o, b'\n')
-        }
+        KeptTimescale::None => line::worded(line::TIMESCALE, Word::Dash),
+        KeptTimescale::Is(n, unit) => Line {
+            name: line::TIMESCALE,
+            kind: Word::None,
+            first: Word::Number(n as u64),
+            second: Word::Unit(unit),
+            shown: Shown::None,
+            last: Word::None,
+        },
     }
 }
 
-fn put_ended(out: &mut [u8], at: usize, e: Ended, c: Cursor) -> usize {
-    match e {
-        Ended::Whole => {
-            let o = put(out, at, b"header");
-            put_cursor(out, o, c.line, c)
-        }
-        Ended::Refused(r, line) => {
-            let o = put(out, at, b"refused");
-            let p = put_number(out, o, r.number());
-            put_cursor(out, p, line, c)
-        }
-    }
-}
-
-fn put_cursor(out: &mut [u8], at: usize, line: u64, c: Cursor) -> usize {
-    let o = put_number(out, at, line);
+fn put_ended(out: &mut [u8], at: usize, s: &[u8], e: Ended, c: Cursor) -> usize {
+    let o = line::put_line(out, at, s, ended_line(e, c));
     let p = put_number(out, o, c.place as u64);
     let q = put_number(out, p, bit(c.pending));
     let sim = c.sim;
     let r = replay::put_open(out, q, sim);
     put_byte(out, r, b'\n')
+}
+
+// How the header ended, and the reader's line then.
+fn ended_line(e: Ended, c: Cursor) -> Line {
+    match e {
+        Ended::Whole => line::worded(line::HEADER, Word::Number(c.line)),
+        Ended::Refused(r, at) => Line {
+            name: line::REFUSED,
+            kind: Word::Number(r.number()),
+            first: Word::Number(at),
+            second: Word::None,
+            shown: Shown::None,
+            last: Word::None,
+        },
+    }
 }
 
 fn bit(b: bool) -> u64 {

@@ -43,7 +43,7 @@ fn answer_all(input: &mut [u8], table: &mut [u64], out: &mut [u8]) -> usize {
             return used;
         };
         used = answer::answer(text::part(input, t), number, table, out, used);
-        at = replay::behind(input, t);
+        at = replay::after(input, t);
         number += 1;
     }
     used

@@ -30,7 +30,7 @@ fn list_all(input: &[u8], out: &mut [u8]) {
         };
         write_case(number, out);
         job::list_dump(text::part(input, t), out);
-        at = replay::behind(input, t);
+        at = replay::after(input, t);
         number += 1;
     }
 }

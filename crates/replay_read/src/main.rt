@@ -32,7 +32,7 @@ fn answer_all(input: &[u8], out: &mut [u8]) {
             break;
         };
         used = answer::answer(text::part(input, t), number, out, used);
-        at = replay::behind(input, t);
+        at = replay::after(input, t);
         number += 1;
         if 65536 < used {
             replay::write_front(out, used);

@@ -30,7 +30,7 @@ fn reformat_all(input: &[u8], out: &mut [u8]) {
         };
         write_case(number, out);
         job::reformat_dump(text::part(input, t), out);
-        at = replay::behind(input, t);
+        at = replay::after(input, t);
         number += 1;
     }
 }

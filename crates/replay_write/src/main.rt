@@ -1,8 +1,6 @@
 // Reads cases on standard input (docs/ORACLE.md) and prints what each call of their scripts answers and writes. Its stored input and
 // output are the oracle's recorded sample, made by oracle/record from the crate's own answers.
 mod answer;
-mod made;
-mod script;
 
 use replay::Case;
 ghost use mathlib.Core.Path.{_≡_};
@@ -46,7 +44,7 @@ fn answer_all(input: &mut [u8], one: &mut [u8], two: &mut [u8], out: &mut [u8]) 
             return used;
         };
         used = answer::answer(text::part(input, t), number, one, two, out, used);
-        at = replay::behind(input, t);
+        at = replay::after(input, t);
         number += 1;
     }
     used

@@ -1,4 +1,4 @@
--- What is rewritten, in closed form: of the commands' meanings those that are taken, laid out one behind the other. Assumes nothing.
+-- What is rewritten, in closed form: of the commands' meanings those that are taken, laid out one after the other. Assumes nothing.
 use Prim.Native.Nat.{ℕ, _-_}
 use mathlib.Core.Path.{_≡_, refl, ap}
 use mathlib.Core.List.{List, _++_}

@@ -1,4 +1,4 @@
--- Commands rewritten from one cursor to the next: one command, more behind it, and how it ends. Assumes nothing.
+-- Commands rewritten from one cursor to the next: one command, more after it, and how it ends. Assumes nothing.
 use Prim.Native.Nat.{ℕ, _+_, _-_, _≤_, _<_}
 use mathlib.Core.Path.{_≡_, refl, sym, ap, _∙_}
 use mathlib.Core.Bool.{true, false}
@@ -9,7 +9,7 @@ use borrow.Author.Tests.{le-leb, leb-true}
 use lib.Dec.{leb}
 use lib.ListN.{length, take, drop, getD, length-append, length-drop, take-append-drop, drop-of-length-le}
 use lib.Seq.{take-at, drop-at, drop-drop}
-use Rattle.text.specs.Texts.{isWithin, putAnswer, putBytes}
+use Rattle.text.specs.Texts.{limit, isWithin, putAnswer, putBytes, outside}
 use Rattle.text.specs.declared.Text.{Text}
 use Rattle.text.proofs.Lists.{by-test, take-rest}
 use Rattle.command.specs.Meaning.{Meaning, meaning}
@@ -21,23 +21,23 @@ use Rattle.token.specs.declared.Cursor.{Cursor}
 use Rattle.token.proofs.Tokens.{Within}
 use Rattle.parser.specs.All.{followed, commands}
 use Rattle.parser.specs.Next.{isGood, nextFrom}
-use Rattle.parser.specs.declared.Next.{Next}
+use Rattle.parser_part.specs.declared.Next.{Next}
 use Rattle.parser.proofs.Ahead.{command-past}
 use Rattle.parser.proofs.All.{less-left, commands-step}
 use Rattle.parser.proofs.Moved.{Inside as Lies}
 use Rattle.parser.proofs.Stated.{command-inside}
-use Rattle.write.specs.Call.{Does, written, outside, misplaced, call}
+use Rattle.write.specs.Call.{Does, written, misplaced, call}
 use Rattle.write.specs.Layout.{layout, writable, stateAfter}
 use Rattle.write.specs.declared.Writer.{Writer}
 use Rattle.write.specs.declared.Written.{Written}
-use Rattle.write.proofs.Checks.{not-long, outside-else}
+use Rattle.text.proofs.Limit.{not-long, outside-else}
 use Rattle.write.proofs.Outcomes.{not-writable, laid-out}
-use Rattle.rewrite.specs.Rewrite.{Outcome, ends, after, rewritten, rewriteOf, answerOf, filled, wroteOf, stepOf, leftBy, behind, Inside}
+use Rattle.rewrite.specs.Rewrite.{Outcome, ends, after, rewritten, rewriteOf, answerOf, filled, wroteOf, stepOf, leftBy, asSlow, Inside}
 use Rattle.rewrite.specs.declared.Ended.{Ended}
 use Rattle.rewrite.specs.declared.Step.{Step}
 
 -- ---- a command that was read is not misplaced
-module _ (s : List ℕ) (h : length s ≤ 4294967295) where
+module _ (s : List ℕ) (h : length s ≤ limit) where
   within : (t : Text) → Within s t → outside s t ≡ false
   unfolding isWithin
   within t w = rw (outside-else s t h, le-leb (t .start + t .len) (length s) (w .inside))
@@ -120,9 +120,9 @@ unfolding call
 may-not w s o k p q = not-writable _ _ _ _ _ p q
 
 module _ (s o : List ℕ) (c : Cursor) (w : Writer) where
-  -- what an answer, and what it left of the output, tell of all that is ahead; of a quick one, its `behind` tells
+  -- what an answer, and what it left of the output, say of all that is ahead; for a hit, its `asSlow` does
   abbrev Told : Step → List ℕ → Type 0
-  Told (Step.Quick e n) left = Unit {0}
+  Told (Step.Hit e n) left = Unit {0}
   Told (Step.Wrote d n v) left = Writes s o c w left n v d × (length s - d .place < length s - c .place)
   Told (Step.Ends d e) left = (left ≡ o) × (ahead s (length o) w c ≡ ends w d e)
 
@@ -160,15 +160,15 @@ module _ (s o : List ℕ) (c : Cursor) (w : Writer) where
 abbrev pub Steps : List ℕ → List ℕ → Cursor → Writer → Step → List ℕ → Type 0
 Steps s o c w r left = (r ≡ stepOf s c w o (nextFrom s c)) × (left ≡ leftBy s w o (nextFrom s c))
 
--- the answer r of the quick way
+-- the answer r of the fast path
 abbrev pub Answers : List ℕ → List ℕ → Cursor → Writer → Step → List ℕ → Type 0
-Answers s o c w r left = (behind s c w r ≡ stepOf s c w o (nextFrom s c)) × Inside s r × (left ≡ leftBy s w o (nextFrom s c))
+Answers s o c w r left = (asSlow s c w r ≡ stepOf s c w o (nextFrom s c)) × Inside s r × (left ≡ leftBy s w o (nextFrom s c))
 
 pub command-steps : (s o : List ℕ) (c : Cursor) (w : Writer) (k : Command) (d : Cursor) → nextFrom s c ≡ Next.Command k d → {r : Step} {left : List ℕ} (x : Written)
     → r ≡ wroteOf c d x → Does x left (call w s k o) → Steps s o c w r left
 command-steps s o c w k d e x q y = rw e (q ∙ ap (wroteOf c d) (y .answers), y .leaves)
 
--- ---- more behind what was written
+-- ---- more after what was written
 after-after : (a b : List ℕ) (x : Outcome) → after a (after b x) ≡ after (a ++ b) x
 after-after a b x = rw (append-assoc a b (x .bytes))
 
@@ -205,7 +205,7 @@ module _ (s o : List ℕ) (c : Cursor) (w : Writer) (out : List ℕ) (n : ℕ) (
     joined : out′ ≡ take n out ++ left
     joined = back ∙ rw (drop-of-length-le (drop n out) {i = length out - n} (omega (arith, length-drop n out)), append-nil left)
 
-    told-next : Told s (drop n o) d v (behind s d v r) left
+    told-next : Told s (drop n o) d v (asSlow s d v r) left
     told-next = let f = rw rest at does in rw (f .0, f .2) (told s (drop n o) d v (nextFrom s d) refl)
 
     abbrev GoesOn : Cursor → ℕ → Writer → Type 0
@@ -214,8 +214,8 @@ module _ (s o : List ℕ) (c : Cursor) (w : Writer) (out : List ℕ) (n : ℕ) (
     pub goes-on : {m : ℕ} {u : Writer} {e : Cursor} → r ≡ Step.Wrote e m u → GoesOn e m u
     goes-on q = let y = rw q at told-next in (then-writes joined (y .0), y .1)
 
-    pub goes-quick : {e m : ℕ} → r ≡ Step.Quick e m → GoesOn (wordRead d e (getD s e 0)) m v
-    goes-quick q = let y = rw q at told-next in (then-writes joined (y .0), y .1)
+    pub goes-hit : {e m : ℕ} → r ≡ Step.Hit e m → GoesOn (wordRead d e (getD s e 0)) m v
+    goes-hit q = let y = rw q at told-next in (then-writes joined (y .0), y .1)
 
     ended : {e : Ended} {f : Cursor} → r ≡ Step.Ends f e → rewriteOf s c w o ≡ after (x .bytes) (ends v f e)
     unfolding rewriteOf

@@ -1,4 +1,4 @@
--- Rewriting: the commands read from a cursor, written one behind the other into an output, up to the end, a refusal of reading, or the
+-- Rewriting: the commands read from a cursor, written one after the other into an output, up to the end, a refusal of reading, or the
 -- first command that may not be written or finds no room.
 use Prim.Native.Nat.{ℕ, _-_, _<_}
 use mathlib.Core.Bool.{cond}
@@ -8,7 +8,7 @@ use lib.ListN.{length, drop, getD}
 use Rattle.command.specs.Meaning.{Meaning, meaning}
 use Rattle.command.specs.declared.Refusal.{Refusal}
 use Rattle.parser.specs.All.{Commands, command, stop, finish, commands}
-use Rattle.parser.specs.declared.Next.{Next}
+use Rattle.parser_part.specs.declared.Next.{Next}
 use Rattle.text.specs.declared.Placed.{Placed}
 use Rattle.token.specs.Flat.{wordRead}
 use Rattle.token.specs.declared.Cursor.{Cursor}
@@ -33,7 +33,7 @@ ends w c e = record { bytes = []; writer = w; cursor = c; ended = e }
 abbrev pub after : List ℕ → Outcome → Outcome
 after b o = record { bytes = b ++ o .bytes; writer = o .writer; cursor = o .cursor; ended = o .ended }
 
--- into so much room; a command that is not written leaves the cursor before it, and the line is the reader's behind it
+-- into so much room; a command that is not written leaves the cursor before it, and the line is the reader's after it
 unfoldable pub rewritten : List ℕ → ℕ → Writer → Cursor → Commands → Outcome
 rewritten s room w c (command k d more) =
     let m : Meaning = meaning s k in
@@ -78,18 +78,18 @@ leftBy s w o (Next.Command k d) = call w s k o .left
 leftBy s w o (Next.Refused e line d) = o
 leftBy s w o (Next.Done d) = o
 
--- ---- a quick step tells only where the blank stands that ends the command, and the bytes written
-abbrev pub behind : List ℕ → Cursor → Writer → Step → Step
-behind s c w (Step.Quick e n) = Step.Wrote (wordRead c e (getD s e 0)) n w
-behind s c w (Step.Wrote d n v) = Step.Wrote d n v
-behind s c w (Step.Ends d e) = Step.Ends d e
+-- ---- a hit says only where the blank stands that ends the command, and the bytes written
+abbrev pub asSlow : List ℕ → Cursor → Writer → Step → Step
+asSlow s c w (Step.Hit e n) = Step.Wrote (wordRead c e (getD s e 0)) n w
+asSlow s c w (Step.Wrote d n v) = Step.Wrote d n v
+asSlow s c w (Step.Ends d e) = Step.Ends d e
 
 abbrev pub Inside : List ℕ → Step → Type 0
-Inside s (Step.Quick e n) = e < length s
+Inside s (Step.Hit e n) = e < length s
 Inside s (Step.Wrote d n v) = Unit {0}
 Inside s (Step.Ends d e) = Unit {0}
 
 -- one that the byte b at e ends, where only the room was in question
 abbrev pub laidOf : Cursor → ℕ → ℕ → Placed → Step
-laidOf c e b (Placed.Count n) = Step.Quick e n
+laidOf c e b (Placed.Count n) = Step.Hit e n
 laidOf c e b Placed.NoRoom = Step.Ends c (Ended.Refused Refusal.NoRoom (wordRead c e b .line))

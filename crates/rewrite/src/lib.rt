@@ -1,7 +1,7 @@
 // Commands read and written anew, as many as one output has room for: the work of one turn of a program that rewrites a dump.
-use brief::Brief;
-use brief::var::Variable;
 use command::Refusal;
+use fast::Fast;
+use fast_var::FastVar;
 use idcode::IdCode;
 use parser::Next;
 use text::Placed;
@@ -10,11 +10,12 @@ use write::Writer;
 use write::Written;
 ghost use mathlib.Core.Path.{_≡_};
 ghost use lib.ListN.{length};
-ghost use Prim.Native.Nat.{_≤_, _<_};
-ghost use Rattle.brief.specs.Brief.{Tells};
+ghost use Prim.Native.Nat.{_+_, _≤_, _<_};
+ghost use Rattle.fast.specs.Fast.{Hits};
 ghost use Rattle.parser.specs.Next.{nextFrom};
 ghost use Rattle.token.specs.Read.{Valid};
-ghost use Rattle.rewrite.specs.Rewrite.{rewriteOf, answerOf, filled, wroteOf, stepOf, leftBy, behind, Inside, laidOf};
+ghost use Rattle.rewrite.specs.Rewrite.{rewriteOf, answerOf, filled, wroteOf, stepOf, leftBy, asSlow, Inside, laidOf};
+ghost use Rattle.text.specs.Texts.{limit};
 
 // How it ended: at the end of the input, or by a refusal of reading or writing and the reader's line then.
 pub enum Ended {
@@ -22,7 +23,7 @@ pub enum Ended {
     Refused(Refusal, u64),
 }
 
-// The cursor behind the last command that was written or refused by the reader, the writer's state, and how many bytes were written.
+// The cursor after the last command that was written or refused by the reader, the writer's state, and how many bytes were written.
 pub struct Rewritten {
     pub cursor: Cursor,
     pub writer: Writer,
@@ -32,8 +33,8 @@ pub struct Rewritten {
 
 // One command written, with its bytes, the state and the cursor then; or how it ends.
 enum Step {
-    // The place of the blank that ends it, and the bytes written; the state is as it was.
-    Quick(usize, usize),
+    // A hit: the place of the blank that ends it, and the bytes written; the state is as it was.
+    Hit(usize, usize),
     Wrote(Cursor, usize, Writer),
     Ends(Cursor, Ended),
 }
@@ -50,8 +51,8 @@ pub fn rewrite(input: &[u8], c: Cursor, w: Writer, out: &mut [u8]) -> Rewritten
     let mut state = w;
     let mut used: usize = 0;
     loop {
-        match step_quick(input, cur, state, &mut out[used..]) {
-            Step::Quick(end, n) => {
+        match step_fast(input, cur, state, &mut out[used..]) {
+            Step::Hit(end, n) => {
                 used += n;
                 cur = token::word_read(cur, end, input[end]);
             }
@@ -78,52 +79,52 @@ fn answer(cursor: Cursor, writer: Writer, count: usize, ended: Ended) -> Rewritt
     }
 }
 
-// A quick look at the command that stands at a place. Each loop has its own, so that the compiler keeps it in the loop.
-fn glance(input: &[u8], at: usize) -> Brief
+// The fast path for the command that stands at a place. Each loop has its own, so that the compiler keeps it in the loop.
+fn fast_command(input: &[u8], at: usize) -> Fast
     requires { ⌜ at ≤ length (now input) ⌝ }
-    requires { ⌜ length (now input) ≤ 4294967295 ⌝ }
-    ensures { λ r. ⌜ Tells (now (input .entry)) at r ⌝ }
+    requires { ⌜ length (now input) ≤ limit ⌝ }
+    ensures { λ r. ⌜ Hits (now (input .entry)) at r ⌝ }
 {
     if input.len() <= at + 2 {
-        return Brief::Other;
+        return Fast::Miss;
     }
     let b = input[at];
     if b / 2 == 24 {
-        return brief::scalar(input, at);
+        return fast::parse_scalar(input, at);
     }
     match b {
-        b'#' => brief::time(input, at),
-        b'x' | b'X' | b'z' | b'Z' => brief::scalar(input, at),
-        b'b' | b'B' => brief::vector(&input[0..], at),
-        _ => Brief::Other,
+        b'#' => fast::parse_timestamp(input, at),
+        b'x' | b'X' | b'z' | b'Z' => fast::parse_scalar(input, at),
+        b'b' | b'B' => fast::parse_vector(&input[0..], at),
+        _ => Fast::Miss,
     }
 }
 
-// The usual commands are told by a quick look; they may always be written and change no state.
-fn step_quick(input: &[u8], c: Cursor, w: Writer, out: &mut [u8]) -> Step
+// One step: usual commands hit the fast path; they may always be written and change no state.
+fn step_fast(input: &[u8], c: Cursor, w: Writer, out: &mut [u8]) -> Step
     requires { ⌜ Valid (now input) c ⌝ }
-    ensures { λ r. ⌜ (behind (now (input .entry)) c w r ≡ stepOf (now (input .entry)) c w (now (out .entry)) (nextFrom (now (input .entry)) c)) × Inside (now (input .entry)) r × (now (out .exit) ≡ leftBy (now (input .entry)) w (now (out .entry)) (nextFrom (now (input .entry)) c)) ⌝ }
+    ensures { λ r. ⌜ (asSlow (now (input .entry)) c w r ≡ stepOf (now (input .entry)) c w (now (out .entry)) (nextFrom (now (input .entry)) c)) × Inside (now (input .entry)) r × (now (out .exit) ≡ leftBy (now (input .entry)) w (now (out .entry)) (nextFrom (now (input .entry)) c)) ⌝ }
 {
     let at = c.place;
-    match glance(input, at) {
-        Brief::Time(t, end) => {
-            let p = lay::lay_time(t, out);
+    match fast_command(input, at) {
+        Fast::Time(t, end) => {
+            let p = emit::emit_time(t, out);
             laid(p, c, end, input[end])
         }
-        Brief::Scalar(i, end) => {
+        Fast::Scalar(i, end) => {
             let v = value::vector::lowered(input[at]);
-            let p = lay::lay_scalar(v, IdCode(i), out);
+            let p = emit::emit_scalar(v, IdCode(i), out);
             laid(p, c, end, input[end])
         }
-        Brief::Vector(i, stop, end) => {
-            let p = lay::lay_vector(&input[at + 1..stop], IdCode(i), out);
+        Fast::Vector(i, stop, end) => {
+            let p = emit::emit_vector(&input[at + 1..stop], IdCode(i), out);
             laid(p, c, end, input[end])
         }
-        Brief::Other => step_more(&input[0..], again(c), state_again(w), out),
+        Fast::Miss => step_var(&input[0..], again(c), state_again(w), out),
     }
 }
 
-// The same cursor and state, made anew: the quick way keeps its own in registers.
+// A cursor and a state made anew for the slow path, so that the fast path keeps its own in registers.
 fn again(c: Cursor) -> Cursor
     ensures { λ r. ⌜ r ≡ c ⌝ }
 {
@@ -150,11 +151,11 @@ fn state_again(w: Writer) -> Writer
 
 // The answer where only the room was in question, for a command from the cursor c on that the byte b at `end` ends.
 fn laid(p: Placed, c: Cursor, end: usize, b: u8) -> Step
-    requires { ⌜ (end < 4294967295) × (c .line ≤ 4294967296) ⌝ }
+    requires { ⌜ (end < limit) × (c .line ≤ limit + 1) ⌝ }
     ensures { λ r. ⌜ r ≡ laidOf c end b p ⌝ }
 {
     match p {
-        Placed::Count(n) => Step::Quick(end, n),
+        Placed::Count(n) => Step::Hit(end, n),
         Placed::NoRoom => {
             let d = token::word_read(c, end, b);
             Step::Ends(c, Ended::Refused(Refusal::NoRoom, d.line))
@@ -162,21 +163,21 @@ fn laid(p: Placed, c: Cursor, end: usize, b: u8) -> Step
     }
 }
 
-// A variable's definition is told by a quick look as well.
-fn step_more(input: &[u8], c: Cursor, w: Writer, out: &mut [u8]) -> Step
+// One step off the fast path of changes: a usual variable definition has its own.
+fn step_var(input: &[u8], c: Cursor, w: Writer, out: &mut [u8]) -> Step
     requires { ⌜ Valid (now input) c ⌝ }
     ensures { λ r. ⌜ (r ≡ stepOf (now (input .entry)) c w (now (out .entry)) (nextFrom (now (input .entry)) c)) × (now (out .exit) ≡ leftBy (now (input .entry)) w (now (out .entry)) (nextFrom (now (input .entry)) c)) ⌝ }
 {
-    match brief::var::look(input, c.place) {
-        Variable::Is(v, end) => {
+    match fast_var::parse_var(input, c.place) {
+        FastVar::Hit(v, end) => {
             let d = token::word_read(c, end, input[end]);
             wrote(w.var(input, v, out), c, d)
         }
-        Variable::Other => step_plain(input, c, w, out),
+        FastVar::Miss => step_slow(input, c, w, out),
     }
 }
 
-fn step_plain(input: &[u8], c: Cursor, w: Writer, out: &mut [u8]) -> Step
+fn step_slow(input: &[u8], c: Cursor, w: Writer, out: &mut [u8]) -> Step
     requires { ⌜ Valid (now input) c ⌝ }
     ensures { λ r. ⌜ (r ≡ stepOf (now (input .entry)) c w (now (out .entry)) (nextFrom (now (input .entry)) c)) × (now (out .exit) ≡ leftBy (now (input .entry)) w (now (out .entry)) (nextFrom (now (input .entry)) c)) ⌝ }
 {

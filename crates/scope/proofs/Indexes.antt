@@ -13,11 +13,11 @@ use mir.Syntax.{w32}
 use mir.Val.{SFits}
 use Rattle.text.specs.Bytes.{bytes, isBlank, starts}
 use Rattle.text.specs.Texts.{part}
-use Rattle.text.specs.WhiteSpace.{blanks, allWhite, keptOf}
-use Rattle.text.proofs.Blank.{blank-none, none as none-here}
+use Rattle.white_space.specs.WhiteSpace.{blanks, allWhite, keptOf}
+use Rattle.white_space.proofs.Blank.{blank-none, none as none-here}
 use Rattle.text.proofs.Blanks.{blank-no}
 use Rattle.text.proofs.Lists.{by-test, cond-both}
-use Rattle.text.proofs.Names.{Each}
+use Rattle.text.proofs.Each.{Each, each-append, each-map}
 use Rattle.number.specs.Decimal.{isDigit, allDigits, signedOf}
 use Rattle.number.specs.declared.Signed.{Signed}
 use Rattle.number.proofs.Laws.{digit-range}
@@ -40,14 +40,6 @@ Sized (ReferenceIndex.BitSelect a) = SFits w32 a
 Sized (ReferenceIndex.Range a b) = SFits w32 a × SFits w32 b
 
 -- ---- each byte of a text
-each-append : {P : ℕ → Type 0} {a b : List ℕ} → Each P a → Each P b → Each P (a ++ b)
-each-append Each.none q = q
-each-append (Each.more p e) q = Each.more p (each-append e q)
-
-each-map : {P Q : ℕ → Type 0} {a : List ℕ} → ((b : ℕ) → P b → Q b) → Each P a → Each Q a
-each-map f Each.none = Each.none
-each-map f (Each.more {b} p e) = Each.more (f b p) (each-map f e)
-
 -- the bytes from 33 to 126; those of a number, with or without a sign
 abbrev Inked : ℕ → Type 0
 Inked b = (33 ≤ b) × (b ≤ 126)
@@ -57,45 +49,45 @@ OfNumber b = (45 ≤ b) × (b ≤ 57)
 
 digits-each : (w : List ℕ) → allDigits w ≡ true → Each OfNumber w
 unfolding allDigits
-digits-each [] e = Each.none
+digits-each [] e = tt
 digits-each (b ∷ w) e =
     let h = cond-both (isDigit b) (allDigits w) e in
     let r = digit-range b (h .0) in
-    Each.more {b = b} (omega arith) (digits-each w (h .1))
+    (omega arith, digits-each w (h .1))
 
 signed-each : (z : ℤ) → Each OfNumber (signedOf z)
 signed-each (pos n) = digits-each _ (digits-decimal n)
-signed-each (negsuc n) = Each.more (lit≤ tt, lit≤ tt) (digits-each _ (digits-decimal (suc n)))
+signed-each (negsuc n) = ((lit≤ tt, lit≤ tt), digits-each _ (digits-decimal (suc n)))
 
 signed-inked : (z : ℤ) → Each Inked (signedOf z)
-signed-inked z = each-map (λ b h. omega arith) (signed-each z)
+signed-inked z = each-map OfNumber Inked (λ b h. omega arith) (signedOf z) (signed-each z)
 
 -- ---- a number has nothing to trim
-none-first : {w : List ℕ} → Each Inked w → blanks 0 w ≡ 0
+none-first : (w : List ℕ) → Each Inked w → blanks 0 w ≡ 0
 unfolding blanks
-none-first Each.none = refl
-none-first (Each.more {b} {s} h e) = none-here (b ∷ s) (sym (blank-none (b ∷ s) (omega arith) (omega arith)))
+none-first [] h = refl
+none-first (b ∷ s) h = none-here (b ∷ s) (sym (blank-none (b ∷ s) (omega (arith, h .0 .0, h .0 .1)) (omega (arith, h .0 .0, h .0 .1))))
 
-all-kept : {w : List ℕ} → Each Inked w → keptOf w ≡ length w
+all-kept : (w : List ℕ) → Each Inked w → keptOf w ≡ length w
 unfolding keptOf allWhite
-all-kept Each.none = refl
-all-kept (Each.more {b} {s} h e) = rw (none-first (Each.more h e), ne-eqb 0 (suc (length s)) (λ z. omega arith), all-kept e)
+all-kept [] h = refl
+all-kept (b ∷ s) h = rw (none-first (b ∷ s) h, ne-eqb 0 (suc (length s)) (λ z. omega arith), all-kept s (h .1))
 
 number-back : (z : ℤ) → SFits w32 z → padded (signedOf z) ≡ Signed.Is z
 unfolding padded part
 number-back z f =
     let w : List ℕ = signedOf z in
     let e = signed-inked z in
-    rw (none-first e, all-kept e, ne-eqb (length w) 0 (λ q. omega (arith, signed-some z)), take-length w) (read-signed z f)
+    rw (none-first w e, all-kept w e, ne-eqb (length w) 0 (λ q. omega (arith, signed-some z)), take-length w) (read-signed z f)
 
 -- ---- the text of an index is read back as itself
-past : (x : ℕ) (r : List ℕ) {a : List ℕ} → Each (λ b. b ≡ x → ⊥) a → upToByte x (a ++ r) ≡ a ++ upToByte x r
+past : (x : ℕ) (r a : List ℕ) → Each (λ b. b ≡ x → ⊥) a → upToByte x (a ++ r) ≡ a ++ upToByte x r
 unfolding upToByte
-past x r Each.none = refl
-past x r (Each.more {b} n e) = rw (ne-eqb b x n) (ap (λ (l : List ℕ). b ∷ l) (past x r e))
+past x r [] h = refl
+past x r (b ∷ a) h = rw (ne-eqb b x (h .0)) (ap (λ (l : List ℕ). b ∷ l) (past x r a (h .1)))
 
 no-colon : (z : ℤ) → Each (λ b. b ≡ 58 → ⊥) (signedOf z)
-no-colon z = each-map (λ b h q. omega arith) (signed-each z)
+no-colon z = each-map OfNumber (λ b. b ≡ 58 → ⊥) (λ b h q. omega arith) (signedOf z) (signed-each z)
 
 bracketed : (m : List ℕ) → parseIndex (bytes "[" ++ (m ++ bytes "]")) ≡ parseInside m
 unfolding parseIndex
@@ -108,12 +100,12 @@ unfolding parseInside upToByte
 read-index ReferenceIndex.None g f = absurd g
 read-index (ReferenceIndex.BitSelect a) g f =
     let w : List ℕ = signedOf a in
-    let all : upToByte 58 w ≡ w = rw append-nil at (past 58 [] (no-colon a)) in
+    let all : upToByte 58 w ≡ w = rw append-nil at (past 58 [] w (no-colon a)) in
     rw (bracketed w, all, eq-eqb (length w) (length w) refl, number-back a f)
 read-index (ReferenceIndex.Range a b) g f =
     let w : List ℕ = signedOf a in
     let m : List ℕ = w ++ (bytes ":" ++ signedOf b) in
-    let front : upToByte 58 m ≡ w = rw append-nil at (past 58 (58 ∷ signedOf b) (no-colon a)) in
+    let front : upToByte 58 m ≡ w = rw append-nil at (past 58 (58 ∷ signedOf b) w (no-colon a)) in
     let longer : length w ≡ length m → ⊥ = λ z. omega (arith, length-append w (58 ∷ signedOf b)) in
     rw (bracketed m, front, ne-eqb (length w) (length m) longer, drop-append-add w (58 ∷ signedOf b) 1, number-back a (f .0), number-back b (f .1))
 
@@ -130,23 +122,19 @@ index-length ReferenceIndex.None f = omega arith
 index-length (ReferenceIndex.BitSelect a) f = omega (arith, length-append (signedOf a) (bytes "]"), signed-short a f)
 index-length (ReferenceIndex.Range a b) f = omega (arith, length-append (pair a b) (bytes "]"), pair-length a b (f .0) (f .1))
 
-left : Each Inked (bytes "[")
-left = Each.more (lit≤ tt, lit≤ tt) Each.none
-
-colon : Each Inked (bytes ":")
-colon = Each.more (lit≤ tt, lit≤ tt) Each.none
-
-right : Each Inked (bytes "]")
-right = Each.more (lit≤ tt, lit≤ tt) Each.none
-
 index-inked : (x : ReferenceIndex) → Each Inked (indexText x)
-index-inked ReferenceIndex.None = Each.none
-index-inked (ReferenceIndex.BitSelect a) = each-append left (each-append (signed-inked a) right)
+index-inked ReferenceIndex.None = tt
+index-inked (ReferenceIndex.BitSelect a) =
+    ((lit≤ tt, lit≤ tt), each-append Inked (signedOf a) (bytes "]") (signed-inked a) ((lit≤ tt, lit≤ tt), tt))
 index-inked (ReferenceIndex.Range a b) =
-    each-append left (each-append (each-append (signed-inked a) (each-append colon (signed-inked b))) right)
+    let inside : Each Inked (pair a b) = each-append Inked (signedOf a) (bytes ":" ++ signedOf b) (signed-inked a) ((lit≤ tt, lit≤ tt), signed-inked b) in
+    ((lit≤ tt, lit≤ tt), each-append Inked (pair a b) (bytes "]") inside ((lit≤ tt, lit≤ tt), tt))
 
 pub index-plain : (x : ReferenceIndex) → Each (λ b. (b < 0x80) × (isBlank b ≡ false)) (indexText x)
-index-plain x = each-map (λ b h. (omega arith, blank-no b (λ q. omega arith) (λ q. omega arith) (λ q. omega arith) (λ q. omega arith))) (index-inked x)
+index-plain x =
+    each-map Inked (λ b. (b < 0x80) × (isBlank b ≡ false))
+    (λ b h. (omega arith, blank-no b (λ q. omega arith) (λ q. omega arith) (λ q. omega arith) (λ q. omega arith)))
+    (indexText x) (index-inked x)
 
 pub index-begins : (x : ReferenceIndex) → Given x → starts (bytes "[") (indexText x) ≡ true
 unfolding starts

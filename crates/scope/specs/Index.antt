@@ -6,7 +6,7 @@ use lib.Dec.{eqb}
 use lib.ListN.{length, take, drop, getD}
 use Rattle.text.specs.Bytes.{bytes}
 use Rattle.text.specs.Texts.{part}
-use Rattle.text.specs.WhiteSpace.{trimmed}
+use Rattle.white_space.specs.WhiteSpace.{trimmed}
 use Rattle.number.specs.Decimal.{signedOf, parseSigned}
 use Rattle.number.specs.declared.Signed.{Signed}
 use Rattle.scope.specs.declared.ReferenceIndex.{ReferenceIndex}

@@ -11,6 +11,7 @@ ghost use Rattle.text.specs.Bytes.{bytes};
 ghost use Rattle.text.specs.Names.{lookup};
 ghost use Rattle.text.specs.Texts.{spelled};
 ghost use Rattle.scope.specs.Types.{scopeName, parseScopeType, varName, varTypes, parseVarType};
+ghost use Rattle.scope.specs.Numbers.{scopeNumber, scopeTypeOf, varNumber, varTypeOf};
 ghost use Rattle.scope.specs.Index.{parseIndex, indexText, padded, upToByte, parseInside};
 
 // A type of scope, as used in the `$scope` command.
@@ -58,6 +59,32 @@ impl ScopeType {
             ScopeType::Function => text::spell(&names::FUNCTION),
             ScopeType::Begin => text::spell(&names::BEGIN),
             ScopeType::Fork => text::spell(&names::FORK),
+        }
+    }
+
+    // The type's place in the order above, from 0.
+    pub fn number(self) -> u64
+        ensures { λ r. ⌜ r ≡ scopeNumber self ⌝ }
+    {
+        match self {
+            ScopeType::Module => 0,
+            ScopeType::Task => 1,
+            ScopeType::Function => 2,
+            ScopeType::Begin => 3,
+            ScopeType::Fork => 4,
+        }
+    }
+
+    // The type of a number; numbers past the last mean the last.
+    pub fn from_number(n: u64) -> ScopeType
+        ensures { λ r. ⌜ r ≡ scopeTypeOf n ⌝ }
+    {
+        match n {
+            0 => ScopeType::Module,
+            1 => ScopeType::Task,
+            2 => ScopeType::Function,
+            3 => ScopeType::Begin,
+            _ => ScopeType::Fork,
         }
     }
 }
@@ -188,6 +215,58 @@ impl VarType {
             VarType::String => text::spell(&names::STRING),
         }
     }
+
+    // The type's place in the order above, from 0.
+    pub fn number(self) -> u64
+        ensures { λ r. ⌜ r ≡ varNumber self ⌝ }
+    {
+        match self {
+            VarType::Event => 0,
+            VarType::Integer => 1,
+            VarType::Parameter => 2,
+            VarType::Real => 3,
+            VarType::Reg => 4,
+            VarType::Supply0 => 5,
+            VarType::Supply1 => 6,
+            VarType::Time => 7,
+            VarType::Tri => 8,
+            VarType::TriAnd => 9,
+            VarType::TriOr => 10,
+            VarType::TriReg => 11,
+            VarType::Tri0 => 12,
+            VarType::Tri1 => 13,
+            VarType::WAnd => 14,
+            VarType::Wire => 15,
+            VarType::WOr => 16,
+            VarType::String => 17,
+        }
+    }
+
+    // The type of a number; numbers past the last mean the last.
+    pub fn from_number(n: u64) -> VarType
+        ensures { λ r. ⌜ r ≡ varTypeOf n ⌝ }
+    {
+        match n {
+            0 => VarType::Event,
+            1 => VarType::Integer,
+            2 => VarType::Parameter,
+            3 => VarType::Real,
+            4 => VarType::Reg,
+            5 => VarType::Supply0,
+            6 => VarType::Supply1,
+            7 => VarType::Time,
+            8 => VarType::Tri,
+            9 => VarType::TriAnd,
+            10 => VarType::TriOr,
+            11 => VarType::TriReg,
+            12 => VarType::Tri0,
+            13 => VarType::Tri1,
+            14 => VarType::WAnd,
+            15 => VarType::Wire,
+            16 => VarType::WOr,
+            _ => VarType::String,
+        }
+    }
 }
 
 // Index of a variable's reference: none, a bit `[n]` or a range `[n:m]`.
@@ -269,7 +348,7 @@ fn find_colon(s: &[u8]) -> usize
 fn number_in(s: &[u8]) -> Signed
     ensures { λ r. ⌜ r ≡ padded (now (s .entry)) ⌝ }
 {
-    number::parse_i32(text::part(s, text::white_space::trim(s)))
+    number::parse_i32(text::part(s, white_space::trim(s)))
 }
 
 // `[n]`

@@ -9,7 +9,7 @@ use Rattle.parser.specs.Next.{nextFrom}
 use Rattle.token.specs.declared.Cursor.{Cursor}
 use Rattle.command.specs.declared.Command.{Command}
 use Rattle.command.specs.declared.Refusal.{Refusal}
-use Rattle.parser.specs.declared.Next.{Next}
+use Rattle.parser_part.specs.declared.Next.{Next}
 use Rattle.parser.proofs.Ahead.{command-past}
 use Rattle.tally.specs.Count.{counted, counts}
 use Rattle.tally.specs.declared.Count.{Count}

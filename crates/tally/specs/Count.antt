@@ -4,7 +4,7 @@ use mathlib.Core.List.{List}
 use lib.ListN.{length}
 use Rattle.parser.specs.Next.{nextFrom}
 use Rattle.token.specs.declared.Cursor.{Cursor}
-use Rattle.parser.specs.declared.Next.{Next}
+use Rattle.parser_part.specs.declared.Next.{Next}
 use Rattle.tally.specs.declared.Count.{Count}
 
 -- n commands were read, and k is the next answer; `more` reads on

@@ -6,12 +6,8 @@ use mathlib.Core.List.{List, [], _∷_}
 use borrow.Author.Tests.{eqb-true}
 use lib.Dec.{eqb}
 use Rattle.text.specs.Bytes.{has}
+use Rattle.text.proofs.Each.{Each}
 use Rattle.text.proofs.Lists.{by-test, either, neither}
-
--- P holds of each byte of a list
-abbrev pub Each : (ℕ → Type 0) → List ℕ → Type 0
-Each P [] = Unit {0}
-Each P (x ∷ l) = P x × Each P l
 
 pub of-each : (P : ℕ → Type 0) (l : List ℕ) (b : ℕ) → Each P l → has l b ≡ true → P b
 unfolding has

@@ -1,11 +1,12 @@
 pub mod Lists
+pub mod Counting
+pub mod Each
 pub mod Equal
 pub mod Places
+pub mod Limit
 pub mod Rows
 pub mod Names
 pub mod Blanks
-pub mod WellFormed
-pub mod Blank
-pub mod Trimming
 pub mod Has
 pub mod Printable
+pub mod Orders

@@ -1,9 +1,11 @@
 -- Laws of tests and of lists that every crate cites.
-use Prim.Native.Nat.{ℕ, _+_, _-_, _<_}
+use Prim.Native.Nat.{ℕ, _+_, _-_, _≤_, _<_}
 use mathlib.Core.Path.{_≡_, refl, sym}
 use mathlib.Core.Bool.{Bool, true, false, cond, not, _&&_, _||_, false≢true}
 use mathlib.Core.List.{List, _∷_}
+use native.Mathlib.Decide.{decLt}
 use native.Mathlib.Nat.{le-refl}
+use native.Mathlib.Omega.{arith}
 use native.Mathlib.Numerals.{add-one}
 use lib.ListN.{length, take, drop, getD, length-drop}
 use lib.Seq.{drop-cons, take-all}
@@ -49,3 +51,12 @@ drop-step s p h = rw (add-one, drop-cons s p 0)
 -- a part that goes to the end, as `&s[k..]` is given, is what is left
 pub take-rest : (s : List ℕ) (k : ℕ) → take (length s - k) (drop k s) ≡ drop k s
 take-rest s k = take-all (length s - k) (drop k s) (simp length-drop (le-refl _))
+
+-- ---- one place more: what holds from `at` up to i, and at i, holds up to e
+pub one-more : (P : ℕ → Type 0) (at i e : ℕ) → e ≡ i + 1 → ((j : ℕ) → at ≤ j → j < i → P j) → P i
+    → (j : ℕ) → at ≤ j → j < e → P j
+one-more P at i e n up here j l u = last (decLt j i)
+  where
+    last : Dec (j < i) → P j
+    last (yes k) = up j l k
+    last (no k) = let q : j ≡ i = omega arith in rw q here

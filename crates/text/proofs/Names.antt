@@ -10,6 +10,7 @@ use lib.Dec.{ltb, leb}
 use lib.ListN.{length}
 use Rattle.text.specs.Bytes.{bytes, equal, isBlank}
 use Rattle.text.specs.Names.{lookup}
+use Rattle.text.proofs.Each.{Each}
 use Rattle.text.proofs.Lists.{by-test, both, not-swap}
 use Rattle.text.proofs.Equal.{equal-true}
 
@@ -22,7 +23,7 @@ module _ {A : Type 0} (name : String) (v : A) (r : List (String × A)) (none : A
   unfolding lookup
   miss e = rw e
 
-  -- A chain `if equals(w, NAME) { return V; } ..` in the table's order, where t is what a test answered: each return, and the last one behind the
+  -- A chain `if equals(w, NAME) { return V; } ..` in the table's order, where t is what a test answered: each return, and the last one after the
   -- chain, is `search chain depth 8 fits 3000`, for a chain of at most six names.
   pub found : (t : Bool) → t ≡ equal w (bytes name) → t ≡ true → v ≡ lookup ((name, v) ∷ r) none w
   found t e h = sym (hit (sym e ∙ h))
@@ -37,16 +38,12 @@ ended none w = refl
 pub ruleset chain = (found, passed, ended)
 
 -- ---- what names are like: one to 9 bytes, each of them ASCII and no whitespace
-pub data Each (P : ℕ → Type 0) : List ℕ → Type 0 where
-  none : Each P []
-  more : {b : ℕ} {s : List ℕ} → P b → Each P s → Each P (b ∷ s)
-
 pub record Name (w : List ℕ) : Type 0 where
   pub some : 0 < length w
   pub short : length w ≤ 9
   pub plain : Each (λ b. (b < 0x80) × (isBlank b ≡ false)) w
 
--- the same as a test that computes
+-- what a name is like, as a test that computes
 unfoldable pub isPlain : List ℕ → Bool
 isPlain [] = true
 isPlain (b ∷ s) = (ltb b 0x80 && not (isBlank b)) && isPlain s
@@ -56,11 +53,11 @@ isName w = (ltb 0 (length w) && leb (length w) 9) && isPlain w
 
 each-plain : (w : List ℕ) → isPlain w ≡ true → Each (λ b. (b < 0x80) × (isBlank b ≡ false)) w
 unfolding isPlain
-each-plain [] e = Each.none
+each-plain [] e = tt
 each-plain (b ∷ s) e =
     let h = both (ltb b 0x80 && not (isBlank b)) (isPlain s) e in
     let k = both (ltb b 0x80) (not (isBlank b)) (h .0) in
-    Each.more (ltb-true b 0x80 (k .0), not-swap (isBlank b) (k .1)) (each-plain s (h .1))
+    ((ltb-true b 0x80 (k .0), not-swap (isBlank b) (k .1)), each-plain s (h .1))
 
 name-is : (w : List ℕ) → isName w ≡ true → Name w
 unfolding isName

@@ -56,7 +56,3 @@ noBlank (b ∷ r) = not (isBlank b) && noBlank r
 unfoldable pub isToken : List ℕ → Bool
 isToken [] = false
 isToken (b ∷ r) = noBlank (b ∷ r)
-
--- the closing mark
-abbrev pub endMark : List ℕ
-endMark = bytes "$end"

@@ -1,17 +1,12 @@
-// Texts as places in a lent buffer, and what Rust's `str` did for the crate: whitespace, equality, the first `$end`, short texts by
-// value; UTF-8 and trimming in modules of their own.
-
-pub mod utf8;
-pub mod white_space;
-
+// Texts as places in a lent buffer, and what Rust's `str` did for the crate: whitespace, equality, short texts by value.
 ghost use mathlib.Core.Path.{_≡_};
 ghost use mathlib.Core.Bool.{true};
 ghost use mathlib.Core.List.{[], _∷_, _++_};
 ghost use lib.ListN.{length, take, drop};
-ghost use Prim.Native.Nat.{_+_, _≤_, _<_};
-ghost use Rattle.text.specs.Bytes.{isBlank, equal, starts, endMark};
+ghost use Prim.Native.Nat.{_+_, _≤_, _<_, min};
+ghost use Rattle.text.specs.Bytes.{isBlank, equal, starts};
 ghost use Rattle.text.specs.Plain.{Plain};
-ghost use Rattle.text.specs.Texts.{isWithin, part as partOf, firstEnd, spelled, textIn, putAnswer, putBytes};
+ghost use Rattle.text.specs.Texts.{isWithin, outside as isOutside, part as partOf, spelled, textIn, putAnswer, putBytes};
 
 // A text is a place in a lent buffer.
 pub struct Text {
@@ -64,6 +59,19 @@ pub fn within(s: &[u8], t: Text) -> bool
     len <= left
 }
 
+// An input has no more bytes than this.
+pub const LIMIT: usize = 4294967295;
+
+// What refusal 25 asks of a text: whether the input is over the limit, or the text outside it.
+pub fn outside(s: &[u8], t: Text) -> bool
+    ensures { λ r. ⌜ r ≡ isOutside (now (s .entry)) t ⌝ }
+{
+    if LIMIT < s.len() {
+        return true;
+    }
+    !within(s, t)
+}
+
 // The bytes of a text; of one that does not lie in the buffer, those that do.
 pub fn part(s: &[u8], t: Text) -> &[u8]
     ensures { λ r. ⌜ now r ≡ partOf (now (s .entry)) t ⌝ }
@@ -112,36 +120,6 @@ pub fn starts_with(s: &[u8], b: u8) -> bool
         return false;
     }
     s[0] == b
-}
-
-// Whether `$end` stands at i.
-fn end_at(s: &[u8], i: usize) -> bool
-    requires { ⌜ i ≤ length (now s) ⌝ }
-    ensures { λ r. ⌜ r ≡ starts endMark (drop i (now (s .entry))) ⌝ }
-{
-    if s.len() - i < 4 {
-        return false;
-    }
-    // Nearly every byte is turned away here.
-    if s[i] != b'$' {
-        return false;
-    }
-    let after = i + 4;
-    equals(&s[i..after], b"$end")
-}
-
-// The place of the first `$end`.
-pub fn find_end(s: &[u8]) -> Found
-    ensures { λ r. ⌜ r ≡ firstEnd (now (s .entry)) ⌝ }
-{
-    let mut i = 0;
-    while i < s.len() {
-        if end_at(s, i) {
-            return Found::At(i);
-        }
-        i += 1;
-    }
-    Found::Nothing
 }
 
 // A text by value; its first 32 bytes where it has more.
@@ -228,4 +206,18 @@ pub fn plain_eight(s: &[u8], at: usize) -> bool
     let a = plain(s[at]) + plain(s[at + 1]) + plain(s[at + 2]) + plain(s[at + 3]);
     let b = plain(s[at + 4]) + plain(s[at + 5]) + plain(s[at + 6]) + plain(s[at + 7]);
     a + b == 8
+}
+
+// A byte as a number of 64 bits.
+pub fn wide(b: u8) -> u64
+    ensures { λ r. ⌜ r ≡ b ⌝ }
+{
+    b as u64
+}
+
+// The smaller of two numbers.
+pub fn least(a: usize, b: usize) -> usize
+    ensures { λ r. ⌜ r ≡ min a b ⌝ }
+{
+    if a < b { a } else { b }
 }

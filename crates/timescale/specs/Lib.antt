@@ -1,2 +1,3 @@
 pub mod Ieee
 pub mod Units
+pub mod Numbers

@@ -5,6 +5,7 @@ ghost use Rattle.text.specs.Bytes.{bytes};
 ghost use Rattle.text.specs.Texts.{spelled};
 ghost use Rattle.timescale.specs.Ieee.{unitName, perSecond};
 ghost use Rattle.timescale.specs.Units.{parseUnit, seconds};
+ghost use Rattle.timescale.specs.Numbers.{unitNumber, unitOf};
 
 // The names, compared in reading and written by `spell`.
 const SECOND: [u8; 1] = *b"s";
@@ -90,5 +91,33 @@ impl TimescaleUnit {
         ensures { λ r. ⌜ r ≡ seconds self ⌝ }
     {
         1.0 / (self.divisor() as f64)
+    }
+
+    // The unit's place in the order above, from 0.
+    pub fn number(self) -> u64
+        ensures { λ r. ⌜ r ≡ unitNumber self ⌝ }
+    {
+        match self {
+            TimescaleUnit::S => 0,
+            TimescaleUnit::MS => 1,
+            TimescaleUnit::US => 2,
+            TimescaleUnit::NS => 3,
+            TimescaleUnit::PS => 4,
+            TimescaleUnit::FS => 5,
+        }
+    }
+
+    // The unit of a number; numbers past the last mean the last.
+    pub fn from_number(n: u64) -> TimescaleUnit
+        ensures { λ r. ⌜ r ≡ unitOf n ⌝ }
+    {
+        match n {
+            0 => TimescaleUnit::S,
+            1 => TimescaleUnit::MS,
+            2 => TimescaleUnit::US,
+            3 => TimescaleUnit::NS,
+            4 => TimescaleUnit::PS,
+            _ => TimescaleUnit::FS,
+        }
     }
 }

@@ -131,7 +131,7 @@ skip-first s c h =
     let k : length (gap r) < length r = omega (arith, at, length-drop (c .place) s) in
     rw (at, ← getD-drop (c .place) s (length (gap r)) 0) (gap-out r k)
 
--- ---- blanks before, a blank behind
+-- ---- blanks before, a blank after
 pub gap-of : (g : List ℕ) (b : ℕ) (r : List ℕ) → allBlank g ≡ true → isBlank b ≡ false → gap (g ++ b ∷ r) ≡ g
 unfolding gap allBlank
 gap-of [] b r p q = rw q

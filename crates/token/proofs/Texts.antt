@@ -6,8 +6,9 @@ use mathlib.Core.List.{List, [], _∷_}
 use native.Mathlib.Omega.{arith}
 use lib.ListN.{length, take, drop, getD, length-drop}
 use lib.Seq.{take-add}
-use Rattle.text.specs.Bytes.{starts, holds, upTo, endMark}
-use Rattle.text.specs.Texts.{firstEnd}
+use Rattle.text.specs.Bytes.{starts, holds, upTo}
+use Rattle.command.specs.Words.{endMark}
+use Rattle.command.specs.Words.{firstEnd}
 use Rattle.text.specs.declared.Found.{Found}
 use Rattle.text.proofs.Lists.{by-test, neither, drop-step, take-rest}
 use Rattle.text.proofs.Equal.{starts-equal, starts-long, equal-true}
@@ -38,7 +39,7 @@ over-end s c end h =
 pub over-valid : (s : List ℕ) (c : Cursor) (end : ℕ) → Valid s c → Valid s (readTo s c end)
 over-valid s c end v = from-front s (rest s c) c (end - c .place) v (omega arith) .valid
 
--- ---- the first mark: it stands behind the bytes before it, or they are all
+-- ---- the first mark: it stands after the bytes before it, or they are all
 mark-at : (m r : List ℕ) → starts m (drop (length (upTo m r)) r) ≡ holds m r
 unfolding upTo holds
 mark-at m [] = refl

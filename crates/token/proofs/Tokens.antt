@@ -6,7 +6,8 @@ use native.Mathlib.Omega.{arith}
 use borrow.Author.Tests.{lt-ltb, le-ltb, eq-eqb, ne-eqb, ltb-true, ltb-false, eqb-true, eqb-false}
 use lib.Dec.{ltb, eqb}
 use lib.ListN.{length, take, drop, length-take, length-drop}
-use Rattle.text.specs.Bytes.{starts, upTo, endMark}
+use Rattle.text.specs.Bytes.{starts, upTo}
+use Rattle.command.specs.Words.{endMark}
 use Rattle.text.specs.declared.Text.{Text as Piece}
 use Rattle.command.specs.declared.Refusal.the-variants.{UnexpectedEof}
 use Rattle.text.proofs.Lists.{by-test}

@@ -1,4 +1,4 @@
--- Laws of words, which have no newline: where one ends, the cursor behind it, and the three ways in which it ends.
+-- Laws of words, which have no newline: where one ends, the cursor after it, and the three ways in which it ends.
 use Prim.Native.Nat.{ℕ, zero, suc, _+_, _-_, _/_, _≤_, _<_, min}
 use mathlib.Core.Path.{_≡_, refl, sym, ap, _∙_}
 use mathlib.Core.Bool.{true, false, true≢false}
@@ -64,7 +64,7 @@ pub solid-read : (c : Cursor) (b : ℕ) → isBlank b ≡ false → wordEndRead 
 unfolding byteRead wordEndRead
 solid-read c b e = rw (solid b e)
 
--- the cursor after the first n bytes of a word, and the byte behind them
+-- the cursor after the first n bytes of a word, and the byte after them
 pub behind : (r : List ℕ) (n : ℕ) (c : Cursor) → n ≤ length (word r) → n < length r
     → after (take (n + 1) r) c ≡ wordRead c (c .place + n) (getD r n 0)
 unfolding word after byteRead wordRead
@@ -202,7 +202,7 @@ values-in (b ∷ r) =
     by-test (isValue b) (λ e. rw (e, solid-value b e, e) (ap suc (values-in r)))
     (λ e. by-test (isBlank b) (λ q. rw (e, q)) (λ q. rw (e, q, e)))
 
--- values at the cursor, and a blank behind them: no blank stands before, so they are the token
+-- values at the cursor, and a blank after them: no blank stands before, so they are the token
 module _ (s : List ℕ) (c : Cursor) (end : ℕ) (v : Valid s c) (long : end ≡ c .place + valuesIn (rest s c)) where
   values-first : c .place < end → c .place < length s → isBlank (getD s (c .place) 0) ≡ false
   values-first h k =

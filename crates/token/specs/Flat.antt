@@ -7,7 +7,7 @@ use lib.ListN.{take}
 use Rattle.token.specs.Read.{nextLine, word, Bound, passed}
 use Rattle.token.specs.declared.Cursor.{Cursor}
 
--- after a word up to `end`, and the byte b behind it
+-- after a word up to `end`, and the byte b after it
 unfoldable pub wordRead : Cursor → ℕ → ℕ → Cursor
 wordRead c end b = record { place = end + 1; line = nextLine c; pending = eqb b 10; sim = c .sim }
 

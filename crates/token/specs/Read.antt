@@ -4,11 +4,13 @@ use mathlib.Core.Bool.{Bool, true, false, cond}
 use mathlib.Core.List.{List, [], _∷_}
 use lib.Dec.{eqb, ltb}
 use lib.ListN.{length, take, drop}
-use Rattle.text.specs.Bytes.{isBlank, starts, upTo, endMark}
+use Rattle.text.specs.Bytes.{isBlank, starts, upTo}
+use Rattle.command.specs.Words.{endMark}
 use Rattle.value.specs.Values.{isValue}
 use Rattle.command.specs.declared.Refusal.{Refusal}
 use Rattle.token.specs.declared.Cursor.{Cursor}
 use Rattle.token.specs.declared.Token.{Token}
+use Rattle.text.specs.Texts.{limit}
 
 abbrev pub bit : Bool → ℕ
 bit true = 1
@@ -16,7 +18,7 @@ bit false = 0
 
 -- a cursor that may stand in the input s
 pub record Valid (s : List ℕ) (c : Cursor) : Type 0 where
-  pub short : length s ≤ 4294967295
+  pub short : length s ≤ limit
   pub within : c .place ≤ length s
   pub started : 1 ≤ c .line
   pub counted : c .line + bit (c .pending) ≤ c .place + 1
@@ -89,7 +91,7 @@ wordHere s c n = wordToken (word (rest s c)) (rest s c) c n
 unfoldable pub token : List ℕ → Cursor → Bound → Token
 token s c n = wordHere s (skipped s c) n
 
--- a text l up to the first `$end`, where r is left to read behind it; the mark is read too
+-- a text l up to the first `$end`, where r is left to read after it; the mark is read too
 unfoldable pub textTo : List ℕ → List ℕ → Cursor → Token
 textTo l r c =
     cond (starts endMark r) (Token.Word (record { start = c .place; len = length l }) (after endMark (after l c)))

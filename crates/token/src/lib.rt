@@ -9,6 +9,7 @@ ghost use Prim.Native.Nat.{_+_, _-_, _≤_, _<_, min};
 ghost use lib.ListN.{length, take, drop};
 ghost use Rattle.token.specs.Read.{Valid, nextLine, byteRead, endRead, after, rest, word, skipped, valuesIn, Bound, most, values, beyond, token, wordHere, textFrom};
 ghost use Rattle.token.specs.Flat.{wordRead, wordEndRead, firstPassed};
+ghost use Rattle.text.specs.Texts.{limit};
 
 // Where reading stands: the next byte's place, the line of the last byte read, whether that byte was a newline, and the simulation
 // command that is open.
@@ -26,7 +27,7 @@ pub enum Token {
 
 // The line that the next read is on.
 fn next_line(c: Cursor) -> u64
-    requires { ⌜ c .line ≤ 4294967296 ⌝ }
+    requires { ⌜ c .line ≤ limit + 1 ⌝ }
     ensures { λ r. ⌜ r ≡ nextLine c ⌝ }
 {
     if c.pending { c.line + 1 } else { c.line }
@@ -34,8 +35,8 @@ fn next_line(c: Cursor) -> u64
 
 // The cursor after a word, which has no newline, up to `end`, and the byte b that stands there.
 pub fn word_read(c: Cursor, end: usize, b: u8) -> Cursor
-    requires { ⌜ end < 4294967295 ⌝ }
-    requires { ⌜ c .line ≤ 4294967296 ⌝ }
+    requires { ⌜ end < limit ⌝ }
+    requires { ⌜ c .line ≤ limit + 1 ⌝ }
     ensures { λ r. ⌜ r ≡ wordRead c end b ⌝ }
 {
     let sim = c.sim;
@@ -48,9 +49,9 @@ pub fn word_read(c: Cursor, end: usize, b: u8) -> Cursor
     }
 }
 
-// The cursor after such a word and the read that found the end behind it.
+// The cursor after such a word and the read that found the end after it.
 pub fn word_end_read(c: Cursor, end: usize) -> Cursor
-    requires { ⌜ c .line ≤ 4294967296 ⌝ }
+    requires { ⌜ c .line ≤ limit + 1 ⌝ }
     ensures { λ r. ⌜ r ≡ wordEndRead c end ⌝ }
 {
     let sim = c.sim;
@@ -65,8 +66,8 @@ pub fn word_end_read(c: Cursor, end: usize) -> Cursor
 
 // The cursor after the byte b was read.
 pub fn byte_read(c: Cursor, b: u8) -> Cursor
-    requires { ⌜ c .place < 4294967295 ⌝ }
-    requires { ⌜ c .line ≤ 4294967296 ⌝ }
+    requires { ⌜ c .place < limit ⌝ }
+    requires { ⌜ c .line ≤ limit + 1 ⌝ }
     ensures { λ r. ⌜ r ≡ byteRead c b ⌝ }
 {
     word_read(c, c.place, b)
@@ -74,7 +75,7 @@ pub fn byte_read(c: Cursor, b: u8) -> Cursor
 
 // The cursor after the read that found the end.
 pub fn end_read(c: Cursor) -> Cursor
-    requires { ⌜ c .line ≤ 4294967296 ⌝ }
+    requires { ⌜ c .line ≤ limit + 1 ⌝ }
     ensures { λ r. ⌜ r ≡ endRead c ⌝ }
 {
     word_end_read(c, c.place)
@@ -237,7 +238,7 @@ pub fn read_text(input: &[u8], c: Cursor) -> Token
     ensures { λ r. ⌜ r ≡ textFrom (now (input .entry)) c ⌝ }
 {
     let start = c.place;
-    let found = text::find_end(&input[start..]);
+    let found = command::find_end(&input[start..]);
     match found {
         Found::At(len) => {
             let end = start + len;

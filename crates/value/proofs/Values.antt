@@ -1,11 +1,11 @@
 -- Laws of the four values: which bytes mean one, the byte that each is written as, and lower case.
-use Prim.Native.Nat.{ℕ}
+use Prim.Native.Nat.{ℕ, _/_, _<_}
 use mathlib.Core.Path.{_≡_, refl, ap, _∙_}
 use mathlib.Core.Bool.{true, false}
 use mathlib.Core.List.{List, [], _∷_}
 use native.Mathlib.Omega.{arith}
-use borrow.Author.Tests.{eqb-true}
-use lib.Dec.{eqb}
+use borrow.Author.Tests.{eqb-true, eqb-false, le-leb}
+use lib.Dec.{eqb, leb}
 use lib.ListN.{length, getD}
 use Rattle.text.specs.Bytes.{bytes, has}
 use Rattle.text.proofs.Lists.{by-test}
@@ -13,6 +13,8 @@ use Rattle.value.specs.Values.{valueOf, valueText, valueByte, isValue, l
 use Rattle.value.specs.declared.Value.{Value}
 use Rattle.value.specs.declared.ParsedValue.{ParsedValue}
 use Rattle.text.proofs.Has.{of-each, each-not}
+use Rattle.text.proofs.Orders.{Order, kept, small}
+use Rattle.value.specs.Numbers.{valueOrder, valueNumber, valueFor}
 
 -- what holds of the six bytes holds of each that means a value
 pub by-value : (P : ℕ → Type 0) → P 48 → P 49 → P 120 → P 88 → P 122 → P 90 → (b : ℕ) → isValue b ≡ true → P b
@@ -42,13 +44,34 @@ module _ (b : ℕ) where
   pub lower-byte : (v : Value) → valueOf b ≡ ParsedValue.Is v → lower b ≡ valueByte v
   lower-byte v e = let k = value-of b (is-value v e) in let same : k .0 ≡ v = cc in k .2 ∙ ap valueByte same
 
--- ---- the byte of a value reads back as it
-pub value-byte : (v : Value) → valueOf (valueByte v) ≡ ParsedValue.Is v
+-- ---- a value is read back from its byte and from its number
+each : (v : Value) → (valueOf (valueByte v) ≡ ParsedValue.Is v) × (getD valueOrder (valueNumber v) Value.Z ≡ v)
 unfolding valueOf has
-value-byte Value.V0 = refl
-value-byte Value.V1 = refl
-value-byte Value.X = refl
-value-byte Value.Z = refl
+each Value.V0 = (refl, refl)
+each Value.V1 = (refl, refl)
+each Value.X = (refl, refl)
+each Value.Z = (refl, refl)
+
+pub value-byte : (v : Value) → valueOf (valueByte v) ≡ ParsedValue.Is v
+value-byte v = each v .0
+
+pub value-order : Order valueOrder Value.Z valueNumber
+value-order = record { back = λ v. each v .1; each = (refl, (refl, (refl, (refl, tt)))); whole = refl }
+
+-- ---- a value's number is a place of the order and means that value; a place of the order is the number of the value that it means
+pub value-back : (k : Value) → (leb (valueNumber k) 3 ≡ true) × (valueFor (valueNumber k) ≡ k)
+unfolding valueFor
+value-back k = (le-leb (valueNumber k) 3 (omega (arith, small value-order k)), value-order .back k)
+
+pub value-kept : (n : ℕ) → n < 4 → valueNumber (valueFor n) ≡ n
+unfolding valueFor
+value-kept n h = kept value-order n h
+
+-- ---- `0` and `1` are the bytes whose half is 24
+pub by-digit : (P : ℕ → Type 0) → P 48 → P 49 → (b : ℕ) → b / 2 ≡ 24 → P b
+by-digit P o i b e =
+    by-test (eqb b 48) (λ q. rw (eqb-true b 48 q) o)
+    (λ q. let h : b ≡ 49 = omega (arith, e, eqb-false b 48 q) in rw h i)
 
 -- ---- lower case changes `X` and `Z` alone
 by-lower : (P : ℕ → ℕ → Type 0) → P 88 120 → P 90 122 → ((b : ℕ) → lower b ≡ b → P b b) → (b : ℕ) → P b (lower b)

@@ -3,6 +3,7 @@ pub mod vector;
 
 ghost use mathlib.Core.Path.{_≡_};
 ghost use Rattle.value.specs.Values.{valueOf, valueText, ofBool, valueByte};
+ghost use Rattle.value.specs.Numbers.{valueNumber, valueFor, numberMeant};
 
 // A four-valued logic scalar value.
 pub enum Value {
@@ -55,6 +56,43 @@ impl Value {
             Value::V1 => b'1',
             Value::X => b'x',
             Value::Z => b'z',
+        }
+    }
+
+    // The value's place in the order above, from 0.
+    pub fn number(self) -> u64
+        ensures { λ r. ⌜ r ≡ valueNumber self ⌝ }
+    {
+        match self {
+            Value::V0 => 0,
+            Value::V1 => 1,
+            Value::X => 2,
+            Value::Z => 3,
+        }
+    }
+
+    // The number of the value that a byte means; the last value's where it means none.
+    pub fn number_at(b: u8) -> u64
+        ensures { λ r. ⌜ r ≡ numberMeant (valueOf b) ⌝ }
+    {
+        if b / 2 == 24 {
+            return (b as u64) - 48;
+        }
+        match b {
+            b'x' | b'X' => 2,
+            _ => 3,
+        }
+    }
+
+    // The value of a number; numbers past the last mean the last.
+    pub fn from_number(n: u64) -> Value
+        ensures { λ r. ⌜ r ≡ valueFor n ⌝ }
+    {
+        match n {
+            0 => Value::V0,
+            1 => Value::V1,
+            2 => Value::X,
+            _ => Value::Z,
         }
     }
 }

@@ -1,4 +1,4 @@
--- `Spelling` has a value's one byte, `Checks` what 25 and 22 ask of texts, `Outcomes` the ways to answer, one law for each.
+-- `Spelling` has a value's one byte, `Ids` the ids that may be written, `Outcomes` the ways to answer, one law for each.
 pub mod Spelling
-pub mod Checks
+pub mod Ids
 pub mod Outcomes

@@ -9,13 +9,13 @@ use Rattle.command.specs.Meaning.{meaning}
 use Rattle.command.specs.declared.Command.{Command}
 use Rattle.command.specs.declared.Refusal.{Refusal}
 use Rattle.idcode.specs.declared.IdCode.{IdCode}
-use Rattle.text.specs.Texts.{putAnswer, putBytes}
+use Rattle.text.specs.Texts.{limit, tooLong, putAnswer, putBytes}
 use Rattle.text.specs.declared.Placed.{Placed}
-use Rattle.write.specs.Call.{Outcome, outcome, written, tooLong, misplaced, call, added, Does, Adds}
+use Rattle.text.proofs.Limit.{too-long, not-long, none-long, outside-long}
+use Rattle.write.specs.Call.{Outcome, outcome, written, misplaced, call, added, Does, Adds}
 use Rattle.write.specs.declared.Added.{Added}
 use Rattle.write.specs.declared.Writer.{Writer}
 use Rattle.write.specs.declared.Written.{Written}
-use Rattle.write.proofs.Checks.{too-long, not-long, none-long, outside-long}
 
 module _ (out ok : Bool) (w : Writer) (b o : List ℕ) where
   pub bad-place : out ≡ true → Does (Written.Refused Refusal.BadPlace) o (outcome out ok w b o)
@@ -46,7 +46,7 @@ added-of i d = record { answers = ap (added i) (d .answers); leaves = d .leaves 
 
 -- ---- any command: an input over the limit is refused, and one within it says nothing about a command that has no text
 module _ (w : Writer) (s : List ℕ) where
-  long : 4294967295 < length s → (k : Command) → misplaced s k ≡ true
+  long : limit < length s → (k : Command) → misplaced s k ≡ true
   long h (Command.Comment t) = outside-long s t h
   long h (Command.Date t) = outside-long s t h
   long h (Command.Version t) = outside-long s t h
@@ -63,12 +63,12 @@ module _ (w : Writer) (s : List ℕ) where
   long h (Command.Begin k) = too-long s h
   long h (Command.End k) = too-long s h
 
-  pub long-call : (k : Command) (o : List ℕ) → 4294967295 < length s → Does (Written.Refused Refusal.BadPlace) o (call w s k o)
+  pub long-call : (k : Command) (o : List ℕ) → limit < length s → Does (Written.Refused Refusal.BadPlace) o (call w s k o)
   unfolding call
   long-call k o h = bad-place _ _ _ _ _ (long h k)
 
   module _ (k : Command) (o : List ℕ) (m : misplaced s k ≡ tooLong s) (n : misplaced [] k ≡ tooLong []) (e : meaning s k ≡ meaning [] k) where
-    pub no-text : length s ≤ 4294967295 → {r : Written} {left : List ℕ} → Does r left (call w [] k o) → Does r left (call w s k o)
+    pub no-text : length s ≤ limit → {r : Written} {left : List ℕ} → Does r left (call w [] k o) → Does r left (call w s k o)
     unfolding call
     no-text h d = rw (m ∙ not-long s h ∙ sym (n ∙ none-long), e) d
 

@@ -1,17 +1,15 @@
 -- What a call answers and what it leaves in the output: one pattern for every command.
 use Prim.Native.Nat.{ℕ}
 use mathlib.Core.Path.{_≡_}
-use mathlib.Core.Bool.{Bool, true, false, cond, not, _&&_}
+use mathlib.Core.Bool.{Bool, cond}
 use mathlib.Core.List.{List}
-use lib.Dec.{leb}
-use lib.ListN.{length}
 use Rattle.command.specs.Meaning.{Meaning, meaning}
 use Rattle.command.specs.declared.Command.{Command}
 use Rattle.command.specs.declared.Refusal.{Refusal}
 use Rattle.idcode.specs.declared.IdCode.{IdCode}
 use Rattle.scope.specs.declared.ReferenceIndex.{ReferenceIndex}
 use Rattle.scope.specs.declared.VarType.{VarType}
-use Rattle.text.specs.Texts.{isWithin, putAnswer, putBytes}
+use Rattle.text.specs.Texts.{tooLong, outside, putAnswer, putBytes}
 use Rattle.text.specs.declared.Placed.{Placed}
 use Rattle.text.specs.declared.Text.{Text}
 use Rattle.write.specs.Layout.{layout, writable, stateAfter}
@@ -39,13 +37,6 @@ fitted w b o = record { answer = written w (putAnswer b o); left = putBytes b o 
 -- 25 for what is misplaced, then 22 for what may not be written, then 21
 unfoldable pub outcome : Bool → Bool → Writer → List ℕ → List ℕ → Outcome
 outcome misplaced ok w b o = cond misplaced (refusal Refusal.BadPlace o) (cond ok (fitted w b o) (refusal Refusal.NotWritable o))
-
--- an input over the limit
-unfoldable pub tooLong : List ℕ → Bool
-tooLong s = not (leb (length s) 4294967295)
-
-unfoldable pub outside : List ℕ → Text → Bool
-outside s t = not (leb (length s) 4294967295 && isWithin s t)
 
 -- is the input over the limit, or a text outside it?
 abbrev pub misplaced : List ℕ → Command → Bool

@@ -1,7 +1,5 @@
 // The writer of value change dumps (write.rs of vcd 0.7.0): each call writes one command from the start of the lent output, and
 // answers how many bytes it wrote with the next state, or why it refused. A refused command changes no byte and no state.
-mod check;
-
 use command::Command;
 use command::Open;
 use command::Refusal;
@@ -19,11 +17,13 @@ use value::Value;
 ghost use mathlib.Core.Path.{_≡_};
 ghost use mathlib.Core.List.{[], _∷_};
 ghost use Prim.Native.Nat.{_<_};
+ghost use Rattle.command.specs.Words.{endMark};
 ghost use Rattle.text.specs.Bytes.{bytes};
-ghost use Rattle.text.specs.Texts.{part};
-ghost use Rattle.write.specs.Call.{call, outcome, outside, written, newVar, Does, Adds};
-ghost use Rattle.write.specs.Layout.{fresh, raised as raisedId, isOpen, isRemark, simNumber};
-ghost use Rattle.lay.specs.Put.{concat};
+ghost use Rattle.text.specs.Texts.{part, outside};
+ghost use Rattle.write_check.specs.Check.{isRemark};
+ghost use Rattle.write.specs.Call.{call, outcome, written, newVar, Does, Adds};
+ghost use Rattle.write.specs.Layout.{fresh, raised as raisedId, isOpen};
+ghost use Rattle.emit.specs.Put.{concat};
 
 // The state, carried from call to call.
 pub struct Writer {
@@ -40,7 +40,7 @@ pub enum Written {
     Refused(Refusal),
 }
 
-// The same, with the id that was given.
+// What was written, with the id that was given.
 pub enum Added {
     Bytes(usize, Writer, IdCode),
     Refused(Refusal),
@@ -49,25 +49,13 @@ pub enum Added {
 // No id: the largest number has no text.
 const NO_ID: u64 = 0xffff_ffff_ffff_ffff;
 
-// The number of a simulation command, by which two are compared.
-fn sim_number(k: SimulationCommand) -> u8
-    ensures { λ r. ⌜ r ≡ simNumber k ⌝ }
-{
-    match k {
-        SimulationCommand::Dumpall => 1,
-        SimulationCommand::Dumpoff => 2,
-        SimulationCommand::Dumpon => 3,
-        SimulationCommand::Dumpvars => 4,
-    }
-}
-
 // Whether it is `k` that is open.
 fn names_open(o: Open, k: SimulationCommand) -> bool
     ensures { λ r. ⌜ r ≡ isOpen o k ⌝ }
 {
     match o {
         Open::None => false,
-        Open::Of(j) => sim_number(j) == sim_number(k),
+        Open::Of(j) => j.number() == k.number(),
     }
 }
 
@@ -132,35 +120,35 @@ impl Writer {
     pub fn comment(self, src: &[u8], t: Text, out: &mut [u8]) -> Written
         ensures { λ r. ⌜ Does r (now (out .exit)) (call self (now (src .entry)) (Command.Comment t) (now (out .entry))) ⌝ }
     {
-        self.remark(src, b"comment", t, out)
+        self.remark(src, &command::COMMENT, t, out)
     }
 
     // Writes a `$date` command.
     pub fn date(self, src: &[u8], t: Text, out: &mut [u8]) -> Written
         ensures { λ r. ⌜ Does r (now (out .exit)) (call self (now (src .entry)) (Command.Date t) (now (out .entry))) ⌝ }
     {
-        self.remark(src, b"date", t, out)
+        self.remark(src, &command::DATE, t, out)
     }
 
     // Writes a `$version` command.
     pub fn version(self, src: &[u8], t: Text, out: &mut [u8]) -> Written
         ensures { λ r. ⌜ Does r (now (out .exit)) (call self (now (src .entry)) (Command.Version t) (now (out .entry))) ⌝ }
     {
-        self.remark(src, b"version", t, out)
+        self.remark(src, &command::VERSION, t, out)
     }
 
-    // The three: the text has a line of its own.
+    // Writes a comment, a date or a version: the text has a line of its own.
     fn remark(self, src: &[u8], word: &[u8], t: Text, out: &mut [u8]) -> Written
-        ensures { λ r. ⌜ Does r (now (out .exit)) (outcome (outside (now (src .entry)) t) (isRemark (part (now (src .entry)) t)) self (concat (bytes "$" ∷ now (word .entry) ∷ bytes "\n    " ∷ part (now (src .entry)) t ∷ bytes "\n$end\n" ∷ [])) (now (out .entry))) ⌝ }
+        ensures { λ r. ⌜ Does r (now (out .exit)) (outcome (outside (now (src .entry)) t) (isRemark (part (now (src .entry)) t)) self (concat (bytes "$" ∷ now (word .entry) ∷ bytes "\n    " ∷ part (now (src .entry)) t ∷ bytes "\n" ∷ endMark ∷ bytes "\n" ∷ [])) (now (out .entry))) ⌝ }
     {
-        if check::outside(src, t) {
+        if text::outside(src, t) {
             return Written::Refused(Refusal::BadPlace);
         }
         let v = text::part(src, t);
-        if !check::is_remark(v) {
+        if !write_check::is_remark(v) {
             return Written::Refused(Refusal::NotWritable);
         }
-        self.laid(lay::lay(b"$", word, b"\n    ", v, b"\n$end\n", out))
+        self.laid(emit::emit_closed(word, b"\n    ", v, b"", b"", b"\n", out))
     }
 
     // Writes a `$timescale` command.
@@ -174,12 +162,13 @@ impl Writer {
         let digits = n.bytes;
         let u = unit.spell();
         let name = u.bytes;
-        self.laid(lay::lay(
-            b"$timescale ",
-            lay::front(&digits, n.len),
+        self.laid(emit::emit_closed(
+            &command::TIMESCALE,
             b" ",
-            lay::front(&name, u.len),
-            b" $end\n",
+            emit::front(&digits, n.len),
+            b" ",
+            emit::front(&name, u.len),
+            b" ",
             out,
         ))
     }
@@ -188,11 +177,11 @@ impl Writer {
     pub fn scope_def(self, src: &[u8], t: ScopeType, i: Text, out: &mut [u8]) -> Written
         ensures { λ r. ⌜ Does r (now (out .exit)) (call self (now (src .entry)) (Command.ScopeDef t i) (now (out .entry))) ⌝ }
     {
-        if check::outside(src, i) {
+        if text::outside(src, i) {
             return Written::Refused(Refusal::BadPlace);
         }
         let v = text::part(src, i);
-        if !check::is_name(v) {
+        if !write_check::is_name(v) {
             return Written::Refused(Refusal::NotWritable);
         }
         let depth = self.depth;
@@ -202,12 +191,13 @@ impl Writer {
         let k = t.spell();
         let name = k.bytes;
         let w = self.at_depth(depth + 1);
-        w.laid(lay::lay(
-            b"$scope ",
-            lay::front(&name, k.len),
+        w.laid(emit::emit_closed(
+            &command::SCOPE,
+            b" ",
+            emit::front(&name, k.len),
             b" ",
             v,
-            b" $end\n",
+            b" ",
             out,
         ))
     }
@@ -228,7 +218,7 @@ impl Writer {
             return Written::Refused(Refusal::NotWritable);
         }
         let w = self.at_depth(depth - 1);
-        w.laid(text::put_text(b"$upscope $end\n", out))
+        w.laid(emit::emit_closed(&command::UPSCOPE, b" ", b"", b"", b"", b"", out))
     }
 
     // Writes a `$var` command with a specified id.
@@ -244,7 +234,7 @@ impl Writer {
     ) -> Written
         ensures { λ r. ⌜ Does r (now (out .exit)) (call self (now (src .entry)) (Command.VarDef «var_type» width id reference index) (now (out .entry))) ⌝ }
     {
-        if check::outside(src, reference) {
+        if text::outside(src, reference) {
             return Written::Refused(Refusal::BadPlace);
         }
         let code = id.0;
@@ -252,7 +242,7 @@ impl Writer {
             return Written::Refused(Refusal::NotWritable);
         }
         let v = text::part(src, reference);
-        if !check::is_name(v) {
+        if !write_check::is_name(v) {
             return Written::Refused(Refusal::NotWritable);
         }
         if self.depth == 0 {
@@ -260,7 +250,7 @@ impl Writer {
         }
         let last = self.id;
         let w = self.with_id(IdCode(raised(code, last.0)));
-        w.laid(define::lay_var(var_type, width, id, v, index, out))
+        w.laid(emit_var::emit_var(var_type, width, id, v, index, out))
     }
 
     // Writes a `$var` command with the next available id, and answers it.
@@ -314,14 +304,14 @@ impl Writer {
         if 0 < self.depth {
             return Written::Refused(Refusal::NotWritable);
         }
-        self.laid(text::put_text(b"$enddefinitions $end\n", out))
+        self.laid(emit::emit_closed(&command::ENDDEFINITIONS, b" ", b"", b"", b"", b"", out))
     }
 
     // Writes a `#xxx` timestamp.
     pub fn timestamp(self, ts: Time, out: &mut [u8]) -> Written
         ensures { λ r. ⌜ Does r (now (out .exit)) (call self [] (Command.Timestamp ts) (now (out .entry))) ⌝ }
     {
-        self.laid(lay::lay_time(ts.0, out))
+        self.laid(emit::emit_time(ts.0, out))
     }
 
     // Writes a change to a scalar variable.
@@ -331,62 +321,62 @@ impl Writer {
         if id.0 == NO_ID {
             return Written::Refused(Refusal::NotWritable);
         }
-        self.laid(lay::lay_scalar(v.byte(), id, out))
+        self.laid(emit::emit_scalar(v.byte(), id, out))
     }
 
     // Writes a change to a vector variable.
     pub fn change_vector(self, src: &[u8], id: IdCode, v: Text, out: &mut [u8]) -> Written
         ensures { λ r. ⌜ Does r (now (out .exit)) (call self (now (src .entry)) (Command.ChangeVector id v) (now (out .entry))) ⌝ }
     {
-        if check::outside(src, v) {
+        if text::outside(src, v) {
             return Written::Refused(Refusal::BadPlace);
         }
         if id.0 == NO_ID {
             return Written::Refused(Refusal::NotWritable);
         }
         let values = text::part(src, v);
-        if !check::is_vector(values) {
+        if !write_check::is_vector(values) {
             return Written::Refused(Refusal::NotWritable);
         }
-        self.laid(lay::lay_vector(values, id, out))
+        self.laid(emit::emit_vector(values, id, out))
     }
 
     // Writes a change to a real variable, whose text is kept.
     pub fn change_real(self, src: &[u8], id: IdCode, v: Text, out: &mut [u8]) -> Written
         ensures { λ r. ⌜ Does r (now (out .exit)) (call self (now (src .entry)) (Command.ChangeReal id v) (now (out .entry))) ⌝ }
     {
-        if check::outside(src, v) {
+        if text::outside(src, v) {
             return Written::Refused(Refusal::BadPlace);
         }
         if id.0 == NO_ID {
             return Written::Refused(Refusal::NotWritable);
         }
         let number = text::part(src, v);
-        if !check::is_real(number) {
+        if !write_check::is_real(number) {
             return Written::Refused(Refusal::NotWritable);
         }
         let i = id.spell();
         let code = i.bytes;
-        self.laid(lay::lay(b"r", number, b" ", lay::front(&code, i.len), b"\n", out))
+        self.laid(emit::emit(b"r", number, b" ", emit::front(&code, i.len), b"\n", out))
     }
 
     // Writes a change to a string variable.
     pub fn change_string(self, src: &[u8], id: IdCode, v: Text, out: &mut [u8]) -> Written
         ensures { λ r. ⌜ Does r (now (out .exit)) (call self (now (src .entry)) (Command.ChangeString id v) (now (out .entry))) ⌝ }
     {
-        if check::outside(src, v) {
+        if text::outside(src, v) {
             return Written::Refused(Refusal::BadPlace);
         }
         if id.0 == NO_ID {
             return Written::Refused(Refusal::NotWritable);
         }
         let string = text::part(src, v);
-        if !check::is_name(string) {
+        if !write_check::is_name(string) {
             return Written::Refused(Refusal::NotWritable);
         }
         let i = id.spell();
         let code = i.bytes;
-        self.laid(lay::lay(b"s", string, b" ", lay::front(&code, i.len), b"\n", out))
+        self.laid(emit::emit(b"s", string, b" ", emit::front(&code, i.len), b"\n", out))
     }
 
     // Writes the beginning of a simulation command.
@@ -396,7 +386,7 @@ impl Writer {
         let k = c.spell();
         let name = k.bytes;
         let w = self.with_open(Open::Of(c));
-        w.laid(lay::lay(b"$", lay::front(&name, k.len), b"\n", b"", b"", out))
+        w.laid(emit::emit(b"$", emit::front(&name, k.len), b"\n", b"", b"", out))
     }
 
     // Writes an `$end` to end the simulation command `c`, which must be the open one.
@@ -408,14 +398,14 @@ impl Writer {
             return Written::Refused(Refusal::NotWritable);
         }
         let w = self.with_open(Open::None);
-        w.laid(text::put_text(b"$end\n", out))
+        w.laid(emit::emit(&command::END, b"\n", b"", b"", b"", out))
     }
 
     // Writes a command as read by the parser.
     pub fn command(self, src: &[u8], c: Command, out: &mut [u8]) -> Written
         ensures { λ r. ⌜ Does r (now (out .exit)) (call self (now (src .entry)) c (now (out .entry))) ⌝ }
     {
-        if check::LIMIT < src.len() {
+        if text::LIMIT < src.len() {
             return Written::Refused(Refusal::BadPlace);
         }
         match c {

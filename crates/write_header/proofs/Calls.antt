@@ -5,11 +5,11 @@ use mathlib.Core.Bool.{true, false}
 use mathlib.Core.List.{List, [], _∷_, _++_}
 use Rattle.command.specs.Meaning.{enddefinitions}
 use Rattle.command.specs.declared.Refusal.{Refusal}
-use Rattle.header.specs.Good.{isGoodTable}
+use Rattle.rows.specs.Good.{isGoodTable}
 use Rattle.header.specs.Header.{inner}
-use Rattle.header.specs.Rows.{top, parentOf, rowsOf}
+use Rattle.rows.specs.Rows.{top, parentOf, rowsOf}
 use Rattle.header.specs.declared.Header.{Header}
-use Rattle.header.specs.declared.rows.Row.{Row}
+use Rattle.rows.specs.declared.Row.{Row}
 use Rattle.write.specs.declared.Writer.{Writer}
 use Rattle.write_header.specs.Levels.{WritesScope}
 use Rattle.write_header.specs.Meanings.{rowMeanings, keptMeanings, headerMeanings}
@@ -18,7 +18,8 @@ use Rattle.write_header.specs.Written.{Outcome, Does, misplaced, headerC
 use Rattle.write_header.specs.declared.HeaderWritten.{HeaderWritten}
 use Rattle.write_header.specs.declared.Wrote.{Wrote}
 use Rattle.write_header.proofs.Poured.{poured-all}
-use Rattle.write_header.proofs.Rows.{rest-all, good-parts, top-end}
+use Rattle.tree.proofs.Rows.{rest-all}
+use Rattle.write_header.proofs.Rows.{good-parts, top-end}
 
 -- an outcome that is this one
 pub of-outcome : {x : Outcome} (y : Outcome) → x ≡ y → Does (y .answer) (y .left) x

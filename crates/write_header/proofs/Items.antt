@@ -10,21 +10,21 @@ use lib.Dec.{eqb}
 use lib.ListN.{length}
 use Rattle.command.specs.Meaning.{Meaning, scopeDef, upscope}
 use Rattle.command.specs.declared.Refusal.{Refusal}
-use Rattle.header.specs.Good.{isGoodFrom}
+use Rattle.rows.specs.Good.{isGoodFrom}
 use Rattle.header.specs.Header.{inner}
-use Rattle.header.specs.Rows.{top, parentOf, rowAt}
-use Rattle.header.specs.declared.rows.Parent.{Parent}
-use Rattle.header.specs.declared.rows.Row.{Row}
+use Rattle.rows.specs.Rows.{top, parentOf, rowAt}
+use Rattle.rows.specs.declared.Parent.{Parent}
+use Rattle.rows.specs.declared.Row.{Row}
 use Rattle.scope.specs.declared.ScopeType.{ScopeType}
 use Rattle.scope.specs.declared.Var.{Var}
 use Rattle.text.specs.Texts.{part}
 use Rattle.text.specs.declared.Text.{Text}
 use Rattle.text.proofs.Lists.{both}
-use Rattle.peek.specs.Peek.{kindOf, varIn}
-use Rattle.peek.proofs.Peeking.{var-kind}
+use Rattle.rows.specs.Peek.{kindOf, varIn}
+use Rattle.rows.proofs.Peeking.{var-kind}
 use Rattle.write.specs.declared.Writer.{Writer}
-use Rattle.write_header.specs.Chain.{parentAt, isVarOf}
-use Rattle.write_header.specs.Levels.{rest, Where, Goes, Ends, WritesItem, WritesScope, Closes, Fits}
+use Rattle.tree.specs.Chain.{parentAt, isVarOf, rest}
+use Rattle.write_header.specs.Levels.{Where, Goes, Ends, WritesItem, WritesScope, Closes, Fits}
 use Rattle.write_header.specs.Meanings.{varMeaning, rowMeanings}
 use Rattle.write_header.specs.Pour.{pour, stop, Writes}
 use Rattle.write_header.specs.Written.{Outcome}
@@ -107,13 +107,13 @@ module _ (s table : List ℕ) (n levels me i : ℕ) (o : List ℕ) (at : ℕ) (w
   pub goes-out : (r : Outcome) → Ends s table n levels (parentAt table i₁) i₁ o₁ at₁ w₁ r → Ends s table n levels me i o at w r
   goes-out r y st h k g = let a = x st h k g in a .1 ∙ y st h (k ∙ ap parentOf (sym e)) (a .0)
 
--- ---- variables of one scope: row `from` and those behind it
+-- ---- variables of one scope: row `from` and those after it
 pub var-of : (table : List ℕ) (i me : ℕ) → isVarOf table i me ≡ true → (kindOf (rowAt table i) ≡ 2) × (parentAt table i ≡ me)
 var-of table i me e =
     let a = both (eqb (kindOf (rowAt table i)) 2) (eqb (parentAt table i) me) e in
     (eqb-true (kindOf (rowAt table i)) 2 (a .0), eqb-true (parentAt table i) me (a .1))
 
--- row `from` is a variable of its own scope, so that a row that is none lies behind it
+-- row `from` is a variable of its own scope, so that a row that is none lies after it
 pub moved : (table : List ℕ) (from i : ℕ) {me : ℕ} → me ≡ parentAt table from → kindOf (rowAt table from) ≡ 2 → from ≤ i → isVarOf table i me ≡ false
     → from < i
 moved table from i {me} m k h e = elim (decLt from i) [

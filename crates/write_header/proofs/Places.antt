@@ -8,27 +8,27 @@ use native.Mathlib.Decide.{decLt}
 use borrow.Author.Tests.{lt-ltb, le-ltb, leb-true, not-false}
 use lib.Dec.{eqb}
 use lib.ListN.{length, getD}
-use Rattle.header.specs.Rows.{textAt, rowAt, rowsFrom, rowsOf}
+use Rattle.rows.specs.Rows.{textAt, wordsAt, rowAt, rowsFrom, rowsOf}
 use Rattle.header.specs.declared.Header.{Header}
-use Rattle.header.specs.declared.rows.Row.{Row}
-use Rattle.header.specs.declared.rows.Parent.{Parent}
+use Rattle.rows.specs.declared.Row.{Row}
+use Rattle.rows.specs.declared.Parent.{Parent}
 use Rattle.scope.specs.declared.ScopeType.{ScopeType}
 use Rattle.scope.specs.declared.Var.{Var}
-use Rattle.text.specs.Texts.{isWithin}
+use Rattle.text.specs.Texts.{limit, isWithin, tooLong, outside}
 use Rattle.text.specs.declared.Text.{Text}
 use Rattle.text.proofs.Lists.{neither}
-use Rattle.peek.specs.Peek.{kindOf, varIn}
-use Rattle.peek.proofs.Peeking.{row-cases, var-kind}
-use Rattle.write.specs.Call.{tooLong, outside}
-use Rattle.write.proofs.Checks.{outside-else}
-use Rattle.write_header.specs.Levels.{rest, Inside}
+use Rattle.rows.specs.Peek.{kindOf, varIn}
+use Rattle.rows.proofs.Peeking.{row-cases, var-kind}
+use Rattle.text.proofs.Limit.{outside-else}
+use Rattle.tree.specs.Chain.{rest}
+use Rattle.write_header.specs.Levels.{Inside}
 use Rattle.write_header.specs.Written.{rowOutside, someOutside, keptOutside, misplaced}
-use Rattle.write_header.proofs.Rows.{rest-cons, rest-nil}
+use Rattle.tree.proofs.Rows.{rest-cons, rest-nil}
 
 -- a source that is not too long
-short : (s : List ℕ) → tooLong s ≡ false → length s ≤ 4294967295
+short : (s : List ℕ) → tooLong s ≡ false → length s ≤ limit
 unfolding tooLong
-short s e = leb-true (length s) 4294967295 (not-false _ e)
+short s e = leb-true (length s) limit (not-false _ e)
 
 pub placed : (s : List ℕ) (t : Text) → tooLong s ≡ false → not (isWithin s t) ≡ false → outside s t ≡ false
 placed s t e h = outside-else s t (short s e) ∙ h
@@ -42,7 +42,7 @@ row-outside s table i l =
     let x = not (isWithin s (textAt (getD table (10 * i + 5) 0) (getD table (10 * i + 6) 0))) in
     let y = sym (and-true x) in
     rw (lt-ltb i (length table / 10) l)
-    (row-cases (λ r. rowOutside s r ≡ (x && not (eqb (kindOf r) 0))) _ _ _ _ _ _ _ _ _ _ y (λ _ _. y) y (sym (and-false x)))
+    (row-cases (λ r. rowOutside s r ≡ (x && not (eqb (kindOf r) 0))) (wordsAt table (10 * i)) y (λ _ _. y) y (sym (and-false x)))
 
 -- ---- the rows from row i on
 none-row : (table : List ℕ) (i : ℕ) → length table / 10 ≤ i → rowAt table i ≡ Row.None

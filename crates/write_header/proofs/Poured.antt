@@ -1,4 +1,4 @@
--- Commands written one behind the other: one of them, and what comes of all.
+-- Commands written one after the other: one of them, and what comes of all.
 use Prim.Native.Nat.{ℕ, suc, _+_, _-_, _≤_}
 use mathlib.Core.Path.{_≡_, sym, ap, _∙_}
 use mathlib.Core.Bool.{true, false, cond}
@@ -16,11 +16,11 @@ use Rattle.text.specs.Texts.{putAnswer, putBytes}
 use Rattle.text.proofs.Lists.{by-test, take-rest}
 use Rattle.write.specs.Call.{call, outcome, misplaced, Does}
 use Rattle.write.specs.Layout.{layout, writable, stateAfter}
-use Rattle.lay.specs.Put.{stored}
+use Rattle.emit.specs.Put.{stored}
 use Rattle.write.specs.Run.{layouts, statesAfter, taken}
 use Rattle.write.specs.declared.Writer.{Writer}
 use Rattle.write.specs.declared.Written.{Written}
-use Rattle.lay.proofs.Storing.{stored-none, stored-length, stored-next}
+use Rattle.emit.proofs.Storing.{stored-none, stored-length, stored-next}
 use Rattle.write_header.specs.Pour.{stop, pour, Writes}
 use Rattle.write_header.specs.Written.{Outcome, stopped, poured}
 use Rattle.write_header.specs.declared.HeaderWritten.{HeaderWritten}
@@ -49,9 +49,9 @@ module _ (o : List ℕ) (at : ℕ) (w : Writer) (s : List ℕ) (k : Command) (p 
   left-room : leb (length (layout it)) (length (drop at o)) ≡ leb (length (layout it)) (length o - at)
   left-room = rw (length-drop at o)
 
-  -- what was left of the output, behind what was not
-  behind : at ≤ length o → (l : List ℕ) → l ++ drop (length o - at) (drop at o) ≡ l
-  behind h l = rw (drop-of-length-le (drop at o) {i = length o - at} (omega (arith, length-drop at o)), append-nil l)
+  -- what was left of the output, after what was not
+  kept-end : at ≤ length o → (l : List ℕ) → l ++ drop (length o - at) (drop at o) ≡ l
+  kept-end h l = rw (drop-of-length-le (drop at o) {i = length o - at} (omega (arith, length-drop at o)), append-nil l)
 
   bad : writable w it ≡ false → call w s k (drop at o) ≡ record { answer = Written.Refused Refusal.NotWritable; left = drop at o }
   unfolding call outcome
@@ -70,10 +70,10 @@ module _ (o : List ℕ) (at : ℕ) (w : Writer) (s : List ℕ) (k : Command) (p 
 
   laid : at ≤ length o → take at o ++ ((layout it ++ drop (length (layout it)) (drop at o)) ++ drop (length o - at) (drop at o)) ≡ stored o at (layout it)
   unfolding stored
-  laid h = rw (behind h (layout it ++ drop (length (layout it)) (drop at o)), drop-drop (length (layout it)) at o)
+  laid h = rw (kept-end h (layout it ++ drop (length (layout it)) (drop at o)), drop-drop (length (layout it)) at o)
 
   kept : at ≤ length o → take at o ++ (drop at o ++ drop (length o - at) (drop at o)) ≡ o
-  kept h = rw (behind h (drop at o), take-append-drop at o)
+  kept h = rw (kept-end h (drop at o), take-append-drop at o)
 
   module _ (h : at ≤ length o) where
     -- what an answer tells of the rest
@@ -106,7 +106,7 @@ module _ (o : List ℕ) (at : ℕ) (w : Writer) (s : List ℕ) (k : Command) (p 
         let b : left ≡ o = q ∙ (rw (d .leaves, x) (kept h)) in
         rw (a, b) (λ more. pour-bad o at w it more e))
 
--- ---- more behind what is written
+-- ---- more after what is written
 module _ (o : List ℕ) (at : ℕ) (w : Writer) (o′ : List ℕ) (at′ : ℕ) (w′ : Writer) (a b : List Meaning) where
   pub then-writes : ((more : List Meaning) → pour o at w (a ++ more) ≡ pour o′ at′ w′ more) → (row : ℕ) (r : Wrote) (left : List ℕ)
       → Writes o′ at′ w′ b row r left → Writes o at w (a ++ b) row r left
@@ -129,7 +129,7 @@ Closed o at w all l =
       left = stored o at (layouts l);
     }
 
--- the first of them, and those behind it
+-- the first of them, and those after it
 module _ (w : Writer) (m : Meaning) (ms : List Meaning) (room : ℕ) where
   taken-bad : writable w m ≡ false → taken w room (m ∷ ms) ≡ []
   unfolding taken

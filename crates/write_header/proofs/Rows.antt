@@ -1,9 +1,9 @@
 -- The rows of a table that are still to be written, and what the first of them does.
---     here-scope, here-var, here-comment    row i stands in the innermost open scope: its command, and then the rows behind it
+--     here-scope, here-var, here-comment    row i stands in the innermost open scope: its command, and then the rows after it
 --     pop                                   row i stands further out, or there is none: the innermost scope is closed
 --     top-end                               no scope is open, and no row is left
-use Prim.Native.Nat.{ℕ, zero, suc, _+_, _-_, _/_, _≤_, _<_}
-use mathlib.Core.Path.{_≡_, refl, sym, ap, subst, _∙_}
+use Prim.Native.Nat.{ℕ, suc, _+_, _-_, _≤_, _<_}
+use mathlib.Core.Path.{_≡_, refl, sym, ap, _∙_}
 use mathlib.Core.Bool.{Bool, true, false, cond, _&&_, false≢true}
 use mathlib.Core.List.{List, [], _∷_}
 use native.Mathlib.Omega.{arith}
@@ -13,98 +13,26 @@ use borrow.Author.Tests.{eq-eqb, ne-eqb, ltb-true, leb-true}
 use lib.Dec.{eqb, ltb, leb}
 use lib.ListN.{length}
 use Rattle.command.specs.Meaning.{comment, remark, scopeDef, upscope, enddefinitions}
-use Rattle.header.specs.Good.{isParent, openTo, isGoodFrom, isGoodTable}
+use Rattle.rows.specs.Good.{isParent, openTo, isGoodFrom, isGoodTable}
 use Rattle.header.specs.Header.{inner}
-use Rattle.header.specs.Rows.{top, parentWord, parentOf, rowAt, rowsFrom, rowsOf}
-use Rattle.header.specs.declared.rows.Parent.{Parent}
-use Rattle.header.specs.declared.rows.Row.{Row}
+use Rattle.rows.specs.Rows.{top, parentWord, parentOf, rowAt, rowsOf}
+use Rattle.rows.specs.declared.Parent.{Parent}
+use Rattle.rows.specs.declared.Row.{Row}
 use Rattle.scope.specs.declared.ScopeType.{ScopeType}
 use Rattle.scope.specs.declared.Var.{Var}
 use Rattle.text.specs.Texts.{part}
 use Rattle.text.specs.declared.Text.{Text}
-use Rattle.text.proofs.Lists.{by-test, both}
-use Rattle.peek.specs.Peek.{parentIn}
-use Rattle.peek.proofs.Peeking.{word-of, row-cases}
-use Rattle.write_header.specs.Chain.{parentAt}
-use Rattle.write_header.specs.Levels.{rest}
+use Rattle.text.proofs.Lists.{both}
+use Rattle.rows.specs.Peek.{parentIn}
+use Rattle.tree.specs.Chain.{parentAt, rest}
+use Rattle.tree.proofs.Rows.{scope-parent, var-parent, comment-parent, rest-cons, rest-nil, rest-all, length-rows, open-other, good-end}
 use Rattle.write_header.specs.Meanings.{upscopes, varMeaning, rowMeanings}
-
--- ---- a row's parent is that of its word
-unfoldable Named : Row → Type 0
-Named (Row.Scope p k t) = parentOf (parentWord p) ≡ p
-Named (Row.Var p v) = parentOf (parentWord p) ≡ p
-Named (Row.Comment p t) = parentOf (parentWord p) ≡ p
-Named Row.None = Unit {0}
-
-module _ (w : ℕ) where
-  twice : parentOf (parentWord (parentOf w)) ≡ parentOf w
-  twice = ap parentOf (word-of w)
-
-  named-scope : (k : ScopeType) (t : Text) → Named (Row.Scope (parentOf w) k t)
-  unfolding Named
-  named-scope k t = twice
-
-  named-var : (v : Var) → Named (Row.Var (parentOf w) v)
-  unfolding Named
-  named-var v = twice
-
-  named-comment : (t : Text) → Named (Row.Comment (parentOf w) t)
-  unfolding Named
-  named-comment t = twice
-
-named-none : Named Row.None
-unfolding Named
-named-none = tt
-
-named : (table : List ℕ) (i : ℕ) → Named (rowAt table i)
-unfolding rowAt
-named table i =
-    by-test (ltb i (length table / 10))
-    (λ e.
-    rw e
-    (row-cases Named _ _ _ _ _ _ _ _ _ _ (named-scope _ _ _) (λ _ _. named-var _ _) (named-comment _ _) named-none))
-    (λ e. rw e named-none)
-
-module _ (table : List ℕ) (i : ℕ) where
-  pub scope-parent : {p : Parent} {k : ScopeType} {t : Text} → rowAt table i ≡ Row.Scope p k t → parentOf (parentAt table i) ≡ p
-  unfolding parentAt Named
-  scope-parent e = rw e (subst Named e (named table i))
-
-  pub var-parent : {p : Parent} {v : Var} → rowAt table i ≡ Row.Var p v → parentOf (parentAt table i) ≡ p
-  unfolding parentAt Named
-  var-parent e = rw e (subst Named e (named table i))
-
-  pub comment-parent : {p : Parent} {t : Text} → rowAt table i ≡ Row.Comment p t → parentOf (parentAt table i) ≡ p
-  unfolding parentAt Named
-  comment-parent e = rw e (subst Named e (named table i))
-
--- ---- the rows from one on
-pub rest-cons : (table : List ℕ) (n i : ℕ) → i < n → rest table n i ≡ rowAt table i ∷ rest table n (i + 1)
-unfolding rowsFrom
-rest-cons table n i h = let e : n - i ≡ suc (n - (i + 1)) = omega arith in rw e
-
-pub rest-nil : (table : List ℕ) (n : ℕ) → rest table n n ≡ []
-unfolding rowsFrom
-rest-nil table n = rw (sub-self n)
-
-pub rest-all : (table : List ℕ) (n : ℕ) → rest table n 0 ≡ rowsOf table n
-rest-all table n = rw (sub-zero n)
-
-pub length-rows : (table : List ℕ) (i k : ℕ) → length (rowsFrom table i k) ≡ k
-unfolding rowsFrom
-length-rows table i zero = refl
-length-rows table i (suc k) = ap suc (length-rows table (i + 1) k)
 
 -- ---- the scopes that stay open
 open-inner : (st : List ℕ) → openTo (inner st) st ≡ st
 unfolding openTo
 open-inner [] = refl
 open-inner (n ∷ st) = rw (eq-eqb n n refl)
-
-pub open-other : (p : Parent) (n : ℕ) (st : List ℕ) → (parentWord p ≡ n → ⊥) → openTo p (n ∷ st) ≡ openTo p st
-unfolding openTo
-open-other Parent.Top n st h = refl
-open-other (Parent.Of q) n st h = rw (ne-eqb (q .0) n h)
 
 parent-other : (p : Parent) (n : ℕ) (st : List ℕ) → (parentWord p ≡ n → ⊥) → isParent p (n ∷ st) ≡ isParent p st
 unfolding isParent
@@ -148,16 +76,9 @@ row-out s (Row.Var p v) rs i n st h g = rw (up-one n st p h, open-other p n st h
 row-out s (Row.Comment p t) rs i n st h g = rw (up-one n st p h, open-other p n st h)
 row-out s Row.None rs i n st h g = absurd (false≢true g)
 
-good-end : (i : ℕ) (st : List ℕ) → isGoodFrom i st [] ≡ true
-unfolding isGoodFrom
-good-end i st = refl
-
 row-end : (s : List ℕ) (i n : ℕ) (st : List ℕ) → rowMeanings s i (n ∷ st) [] ≡ upscope ∷ rowMeanings s i st []
 unfolding rowMeanings
 row-end s i n st = rw (sub-zero (suc (length st)), sub-zero (length st))
-
-pub last-row : (table : List ℕ) (n i : ℕ) (st : List ℕ) → i ≤ n → n ≤ i → isGoodFrom i st (rest table n i) ≡ true
-last-row table n i st h k = let e : i ≡ n = omega arith in rw (e, rest-nil table n) (good-end n st)
 
 module _ (s table : List ℕ) (n i : ℕ) (st : List ℕ) where
   pub pop : (m : ℕ) → i ≤ n → (i < n → parentAt table i ≡ m → ⊥) → isGoodFrom i (m ∷ st) (rest table n i) ≡ true

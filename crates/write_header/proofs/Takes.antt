@@ -1,5 +1,5 @@
 -- What a header's call amounts to: some commands of it in order are accepted, and no other.
---     header-takes   their layouts are the bytes, and the answer tells how many, and the state behind them
+--     header-takes   their layouts are the bytes, and the answer tells how many, and the state after them
 --     header-all     where the answer is `Bytes`, they are all
 --     sized-header   the numbers of a header's commands are of their types
 use Prim.Native.Nat.{ℕ, zero, suc, _+_, _-_, _*_, _/_, _^_, _<_}
@@ -14,14 +14,14 @@ use mir.Syntax.{w32}
 use mir.Val.{SFits}
 use Rattle.command.specs.Meaning.{Meaning, Remark, comment, date, version, remark, scopeDef, upscope, enddefinitions}
 use Rattle.command.specs.declared.Refusal.{Refusal}
-use Rattle.header.specs.Good.{isGoodTable, openTo}
-use Rattle.header.specs.Rows.{signedOf, isIndex, indexOf, rowAt, rowsFrom, rowsOf}
+use Rattle.rows.specs.Good.{isGoodTable, openTo}
+use Rattle.rows.specs.Rows.{signedOf, isIndex, indexOf, wordsAt, rowAt, rowsFrom, rowsOf}
 use Rattle.header.specs.declared.Header.{Header}
 use Rattle.header.specs.declared.KeptText.{KeptText}
 use Rattle.header.specs.declared.KeptTimescale.{KeptTimescale}
-use Rattle.header.specs.declared.rows.Row.{Row}
+use Rattle.rows.specs.declared.Row.{Row}
 use Rattle.text.specs.Texts.{part}
-use Rattle.text.proofs.Has.{Each}
+use Rattle.text.proofs.Each.{Each}
 use Rattle.text.proofs.Lists.{by-test, both}
 use Rattle.write.specs.Layout.{layout, writable, stateAfter}
 use Rattle.write.specs.Run.{layouts, statesAfter, taken, Sized, AllSized, SizedIndex}
@@ -29,7 +29,7 @@ use Rattle.write.specs.declared.Writer.{Writer}
 use Rattle.write_header.specs.Meanings.{upscopes, remarkOf, timescaleOf, varMeaning, rowMeanings, headerMeanings}
 use Rattle.write_header.specs.Written.{Outcome, poured, misplaced, headerCall}
 use Rattle.write_header.specs.declared.HeaderWritten.{HeaderWritten}
-use Rattle.peek.proofs.Peeking.{row-cases}
+use Rattle.rows.proofs.Peeking.{row-cases}
 
 -- ---- the accepted commands
 abbrev pub countOf : HeaderWritten → ℕ
@@ -151,14 +151,14 @@ sized-row : (table : List ℕ) (i : ℕ) → AreWords table → SizedRow (rowAt 
 unfolding rowAt SizedRow
 sized-row table i x =
     by-test (ltb i (length table / 10))
-    (λ e. rw e (row-cases SizedRow _ _ _ _ _ _ _ _ _ _ tt (λ h q. (h, word-at table (10 * i + 4) x, index-sized _ _ _ q)) tt tt))
+    (λ e. rw e (row-cases SizedRow (wordsAt table (10 * i)) tt (λ h q. (h, word-at table (10 * i + 4) x, index-sized _ _ _ q)) tt tt))
     (λ e. rw e tt)
 
 sized-append : (a b : List Meaning) → AllSized a → AllSized b → AllSized (a ++ b)
 sized-append [] b x y = y
 sized-append (m ∷ a) b x y = (x .0, sized-append a b (x .1) y)
 
--- a row's command behind upscopes
+-- a row's command after upscopes
 sized-up : (k : ℕ) (m : Meaning) (ms : List Meaning) → Sized m → AllSized ms → AllSized (replicate k upscope ++ (m ∷ ms))
 sized-up zero m ms x y = (x, y)
 sized-up (suc k) m ms x y = (tt, sized-up k m ms x y)

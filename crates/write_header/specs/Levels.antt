@@ -1,17 +1,16 @@
 -- What the private functions that write rows promise: the rest of the writing, from where they stop, gives the same outcome.
-use Prim.Native.Nat.{ℕ, _+_, _-_, _≤_, _<_}
+use Prim.Native.Nat.{ℕ, _+_, _≤_, _<_}
 use mathlib.Core.Path.{_≡_}
 use mathlib.Core.Bool.{true, false}
 use mathlib.Core.List.{List, [], _∷_}
 use lib.ListN.{length}
 use Rattle.command.specs.Meaning.{upscope}
-use Rattle.header.specs.Good.{isGoodFrom}
+use Rattle.rows.specs.Good.{isGoodFrom}
 use Rattle.header.specs.Header.{inner}
-use Rattle.header.specs.Rows.{parentOf, rowAt, rowsFrom}
-use Rattle.header.specs.declared.rows.Row.{Row}
-use Rattle.write.specs.Call.{tooLong}
+use Rattle.rows.specs.Rows.{parentOf, rowAt}
+use Rattle.text.specs.Texts.{tooLong}
 use Rattle.write.specs.declared.Writer.{Writer}
-use Rattle.write_header.specs.Chain.{parentAt}
+use Rattle.tree.specs.Chain.{parentAt, rest}
 use Rattle.write_header.specs.Meanings.{rowMeanings}
 use Rattle.write_header.specs.Pour.{pour, stop, Writes}
 use Rattle.write_header.specs.Written.{Outcome, rowOutside}
@@ -21,10 +20,6 @@ use Rattle.write_header.specs.declared.Wrote.{Wrote}
 pub record Inside (s table : List ℕ) (n : ℕ) : Type 0 where
   pub short : tooLong s ≡ false
   pub placed : (i : ℕ) → i < n → rowOutside s (rowAt table i) ≡ false
-
--- the rows from row i on
-abbrev pub rest : List ℕ → ℕ → ℕ → List Row
-rest table n i = rowsFrom table i (n - i)
 
 -- where row i is to be written with these scopes open, `me` the innermost: what holds of the writing from there
 abbrev pub Where : List ℕ → ℕ → ℕ → ℕ → ℕ → (List ℕ → Type 0) → Type 0
@@ -55,7 +50,7 @@ WritesScope s table n levels me i o at w (Wrote.Through i′ at′ w′) o′ =
     (i ≤ i′) × (i′ ≤ n) × (at′ ≤ length o′) × (i′ < n → parentAt table i′ ≡ me → ⊥) × Goes s table n levels me i o at w i′ o′ at′ w′
 WritesScope s table n levels me i o at w (Wrote.Refused e at′ w′) o′ = Ends s table n levels me i o at w (stop e at′ w′ o′)
 
--- a scope's items were written, and then the `$upscope` behind them; or they were not
+-- a scope's items were written, and then the `$upscope` after them; or they were not
 abbrev pub Closes : Wrote → List ℕ → Wrote → List ℕ → Type 0
 Closes (Wrote.Through i at w) o r o′ = Writes o at w (upscope ∷ []) i r o′
 Closes (Wrote.Refused e at w) o r o′ = (r ≡ Wrote.Refused e at w) × (o′ ≡ o)

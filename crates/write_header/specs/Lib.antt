@@ -1,6 +1,5 @@
--- What write_header's contracts cite: the public one `Written`, the private ones `Chain`, `Pour` and `Levels` too.
+-- What write_header's contracts cite: the public one `Written`, the private ones `Pour` and `Levels` too.
 pub mod Meanings
 pub mod Written
-pub mod Chain
 pub mod Pour
 pub mod Levels

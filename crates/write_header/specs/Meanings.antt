@@ -6,11 +6,11 @@ use lib.ListN.{length, replicate}
 use Rattle.command.specs.Meaning.{Meaning, Remark, comment, date, version, remark, timescale, scopeDef, upscope, varDef, enddefinitions}
 use Rattle.scope.specs.declared.Var.{Var}
 use Rattle.text.specs.Texts.{part}
-use Rattle.header.specs.Good.{openTo}
+use Rattle.rows.specs.Good.{openTo}
 use Rattle.header.specs.declared.Header.{Header}
 use Rattle.header.specs.declared.KeptText.{KeptText}
 use Rattle.header.specs.declared.KeptTimescale.{KeptTimescale}
-use Rattle.header.specs.declared.rows.Row.{Row}
+use Rattle.rows.specs.declared.Row.{Row}
 
 abbrev pub remarkOf : Remark → List ℕ → KeptText → List Meaning
 remarkOf k s KeptText.None = []

@@ -1,4 +1,4 @@
--- Commands written one behind the other: what the private functions that write promise.
+-- Commands written one after the other: what the private functions that write promise.
 use Prim.Native.Nat.{ℕ, _+_, _-_, _≤_}
 use mathlib.Core.Path.{_≡_}
 use mathlib.Core.Bool.{cond}
@@ -8,7 +8,7 @@ use lib.ListN.{length}
 use Rattle.command.specs.Meaning.{Meaning}
 use Rattle.command.specs.declared.Refusal.{Refusal}
 use Rattle.write.specs.Layout.{layout, writable, stateAfter}
-use Rattle.lay.specs.Put.{stored}
+use Rattle.emit.specs.Put.{stored}
 use Rattle.write.specs.declared.Writer.{Writer}
 use Rattle.write_header.specs.Written.{Outcome}
 use Rattle.write_header.specs.declared.HeaderWritten.{HeaderWritten}

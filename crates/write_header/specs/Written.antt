@@ -7,13 +7,12 @@ use lib.Dec.{leb, eqb}
 use lib.ListN.{length, drop}
 use Rattle.command.specs.Meaning.{Meaning}
 use Rattle.command.specs.declared.Refusal.{Refusal}
-use Rattle.text.specs.Texts.{isWithin}
-use Rattle.header.specs.Good.{isGoodTable}
-use Rattle.header.specs.Rows.{rowsOf}
+use Rattle.text.specs.Texts.{isWithin, tooLong}
+use Rattle.rows.specs.Good.{isGoodTable}
+use Rattle.rows.specs.Rows.{rowsOf}
 use Rattle.header.specs.declared.Header.{Header}
 use Rattle.header.specs.declared.KeptText.{KeptText}
-use Rattle.header.specs.declared.rows.Row.{Row}
-use Rattle.write.specs.Call.{tooLong}
+use Rattle.rows.specs.declared.Row.{Row}
 use Rattle.write.specs.Layout.{layout, writable, stateAfter}
 use Rattle.write.specs.Run.{layouts, statesAfter, taken}
 use Rattle.write.specs.declared.Writer.{Writer}

@@ -1,12 +1,12 @@
 // A whole header written from its rows (`Writer::header` and `Writer::scope` of vcd 0.7.0).
-mod good;
+mod place;
 
 use command::Command;
 use command::Refusal;
 use header::Header;
 use header::KeptText;
 use header::KeptTimescale;
-use header::Row;
+use rows::Row;
 use scope::Var;
 use write::Writer;
 use write::Written;
@@ -16,10 +16,11 @@ ghost use mathlib.Core.List.{[], _∷_};
 ghost use Prim.Native.Nat.{ℕ, _≤_, _<_};
 ghost use lib.ListN.{length};
 ghost use Rattle.command.specs.Meaning.{meaning, date as dateRemark, version as versionRemark};
-ghost use Rattle.header.specs.Good.{isGoodTable};
-ghost use Rattle.header.specs.Rows.{rowAt, rowsOf};
-ghost use Rattle.peek.specs.Peek.{kindOf};
-ghost use Rattle.write.specs.Call.{tooLong, outside, misplaced as isMisplaced};
+ghost use Rattle.rows.specs.Good.{isGoodTable};
+ghost use Rattle.rows.specs.Rows.{rowAt, rowsOf};
+ghost use Rattle.rows.specs.Peek.{kindOf};
+ghost use Rattle.text.specs.Texts.{tooLong, outside};
+ghost use Rattle.write.specs.Call.{misplaced as isMisplaced};
 ghost use Rattle.write_header.specs.Levels.{Inside, Fits, Closes, WritesItem, WritesScope};
 ghost use Rattle.write_header.specs.Meanings.{keptMeanings, remarkOf, timescaleOf, varMeaning, rowMeanings};
 ghost use Rattle.write_header.specs.Pour.{pour, Writes};
@@ -31,13 +32,11 @@ pub enum HeaderWritten {
     Refused(Refusal, usize, Writer),
 }
 
-// How a part of it was written: to its end, with the next row, the place behind it and the state; or refused.
+// How a part of it was written: to its end, with the next row, the place after it and the state; or refused.
 enum Wrote {
     Through(usize, usize, Writer),
     Refused(Refusal, usize, Writer),
 }
-
-const LEVELS: usize = 64;
 
 // Writes a header with these values kept and the first `count` rows of a table.
 pub fn header(
@@ -50,10 +49,10 @@ pub fn header(
 ) -> HeaderWritten
     ensures { λ r. ⌜ Does r (now (out .exit)) (headerCall w (now (src .entry)) h (now (rows .entry)) count (now (out .entry))) ⌝ }
 {
-    if good::misplaced(src, h, rows, count) {
+    if place::misplaced(src, h, rows, count) {
         return HeaderWritten::Refused(Refusal::BadPlace, 0, w);
     }
-    if !good::good_table(rows, count) {
+    if !tree::good_table(rows, count) {
         return HeaderWritten::Refused(Refusal::BadTable, 0, w);
     }
     match write_kept(w, src, h, out) {
@@ -62,7 +61,7 @@ pub fn header(
     }
 }
 
-// One command behind the bytes that are written; `row` is the row to go on with.
+// One command after the bytes that are written; `row` is the row to go on with.
 fn write_one(w: Writer, src: &[u8], k: Command, row: usize, out: &mut [u8], at: usize) -> Wrote
     requires { ⌜ (at ≤ length (now out)) × (isMisplaced (now src) k ≡ false) ⌝ }
     ensures { λ r. ⌜ Writes (now (out .entry)) at w (meaning (now (src .entry)) k ∷ []) row r (now (out .exit)) ⌝ }
@@ -138,7 +137,7 @@ fn write_rows(
     requires { ⌜ (at ≤ length (now out)) × Inside (now src) (now rows) n × (isGoodTable (rowsOf (now rows) n) ≡ true) ⌝ }
     ensures { λ r. ⌜ Does r (now (out .exit)) (pour (now (out .entry)) at w (rowMeanings (now (src .entry)) 0 [] (rowsOf (now (rows .entry)) n))) ⌝ }
 {
-    match write_scope(w, src, rows, n, 0, out, at, header::TOP, LEVELS) {
+    match write_scope(w, src, rows, n, 0, out, at, rows::TOP, rows::LEVELS) {
         Wrote::Through(_, past, v) => match write_one(
             v,
             src,
@@ -173,7 +172,7 @@ fn write_scope(
     let mut i = from;
     let mut place = at;
     while i < n {
-        if good::parent_at(rows, i) != me {
+        if tree::parent_at(rows, i) != me {
             return Wrote::Through(i, place, v);
         }
         match write_item(v, src, rows, n, i, out, place, levels) {
@@ -204,7 +203,7 @@ fn write_item(
     requires { ⌜ (i < n) × (n ≤ 4096) × (levels ≤ 64) × (at ≤ length (now out)) × Inside (now src) (now rows) n ⌝ }
     ensures { λ r. ⌜ WritesItem (now (src .entry)) (now (rows .entry)) n levels i (now (out .entry)) at w r (now (out .exit)) ⌝ }
 {
-    match header::row_at(rows, i) {
+    match rows::row_at(rows, i) {
         Row::Scope(_, k, t) => {
             if levels == 0 {
                 return Wrote::Refused(Refusal::BadTable, at, w);
@@ -226,7 +225,7 @@ fn write_item(
     }
 }
 
-// Row `from`, a variable, and those behind it that are variables of the same scope.
+// Row `from`, a variable, and those after it that are variables of the same scope.
 fn write_vars(
     w: Writer,
     src: &[u8],
@@ -239,12 +238,12 @@ fn write_vars(
     requires { ⌜ (from < n) × (n ≤ 4096) × (at ≤ length (now out)) × Inside (now src) (now rows) n × (kindOf (rowAt (now rows) from) ≡ 2) ⌝ }
     ensures { λ r. ⌜ ((levels : ℕ) → WritesItem (now (src .entry)) (now (rows .entry)) n levels from (now (out .entry)) at w r (now (out .exit))) ⌝ }
 {
-    let me = good::parent_at(rows, from);
+    let me = tree::parent_at(rows, from);
     let mut v = w;
     let mut i = from;
     let mut place = at;
-    while i < n && good::is_var_of(rows, i, me) {
-        match write_var(v, src, peek::var_at(rows, i), i + 1, out, place) {
+    while i < n && tree::is_var_of(rows, i, me) {
+        match write_var(v, src, rows::peek::var_at(rows, i), i + 1, out, place) {
             Wrote::Through(next, past, u) => {
                 i = next;
                 place = past;
@@ -268,7 +267,7 @@ fn write_var(w: Writer, src: &[u8], v: Var, row: usize, out: &mut [u8], at: usiz
     }
 }
 
-// The `$upscope` behind a scope's items.
+// The `$upscope` after a scope's items.
 fn close(items: Wrote, src: &[u8], out: &mut [u8]) -> Wrote
     requires { ⌜ Fits items (length (now out)) × (tooLong (now src) ≡ false) ⌝ }
     ensures { λ r. ⌜ Closes items (now (out .entry)) r (now (out .exit)) ⌝ }

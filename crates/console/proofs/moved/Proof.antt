@@ -20,17 +20,8 @@ above (negsuc n) f e = absurd (false≢true (sym e))
 above-held : (z : ℤ) → SFits w64 z → leZ (toZ w64 (ofZ w64 z)) (pos 0) ≡ false → T (nonNeg (toZ w64 (ofZ w64 z))) × Fits w64 (natAbs (toZ w64 (ofZ w64 z)))
 above-held z f e = rw (toZ-ofZ w64 z f) (above z f (rw (toZ-ofZ w64 z f) at e))
 
-returns : tie.Need-returns
-returns c = search needs
-
 cast-least : tie.Need-cast-least
 cast-least c = above-held _ (c .before .fits .got) (c .if1 .left)
 
-least-requires : tie.Need-least-requires
-least-requires c κs = search needs
-
-returns-2 : tie.Need-returns-2
-returns-2 c = search needs
-
 pub moved-spec : {M : Type 1} → statement M
-moved-spec = tie.close (tie.spec returns cast-least least-requires returns-2)
+moved-spec = tie.close (tie.spec (λ c. search needs) cast-least (λ c κs. search needs) (λ c. search needs))

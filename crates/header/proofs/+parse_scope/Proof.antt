@@ -54,19 +54,19 @@ take-vars-requires t c κs =
     let i = c .before .loop .inv in
     (i .1 .room, a .1, omega (arith, a .2, i .0))
 
--- behind the variables: the table's length, and what is reached
-behind : (t : ℕ) (c : lts.After-take-vars (calls t) (own t) reads.Post Inv μ) →
+-- after the variables: the table's length, and what is reached
+past-vars : (t : ℕ) (c : lts.After-take-vars (calls t) (own t) reads.Post Inv μ) →
     let a = c .before .before .before .before .before .args in
     let v = c .take-vars .result in
     let m = c .take-vars .last .1 .1 .0 in
     (length m ≡ length (a .rows .now))
     × Reached (a .input .now) (a .cap) (a .parent) (a .levels) (a .from) (a .rows .now) (a .made) (v .cursor) m (v .count)
-behind t c = let i = c .before .before .loop .inv in (c .take-vars .kept .1 .1 .0 ∙ i .0, reached-vars (i .1) _ _ _ (c .take-vars .ensures))
+past-vars t c = let i = c .before .before .loop .inv in (c .take-vars .kept .1 .1 .0 ∙ i .0, reached-vars (i .1) _ _ _ (c .take-vars .ensures))
 
 take-item-requires : (t : ℕ) → lts.Need-take-item-requires (calls t) (own t) reads.Post Inv μ
 take-item-requires t c κs =
     let a = c .before .before .before .before .before .before .before .before .pre .1 in
-    (a .1, omega (arith, a .2, behind t (c .before .before .before) .0), omega (arith, a .3))
+    (a .1, omega (arith, a .2, past-vars t (c .before .before .before) .0), omega (arith, a .3))
 
 enum-known-d : (t : ℕ) → lts.Need-enum-known-d (calls t) (own t) reads.Post Inv μ
 enum-known-d t c = search needs
@@ -83,7 +83,7 @@ loop-less t c =
 
 loop-again : (t : ℕ) → lts.Need-loop-again (calls t) (own t) reads.Post Inv μ
 loop-again t c =
-    let b = behind t (c .before .before .before .before .before .before .before .before .before) in
+    let b = past-vars t (c .before .before .before .before .before .before .before .before .before) in
     let g = rw (c .before .d .given .1) at (c .before .before .before .before .before .take-item .ensures) in
     (c .before .before .before .before .before .take-item .kept .1 .1 .0 ∙ b .0, reached-leaf (b .1) _ _ g)
 
@@ -104,7 +104,7 @@ parse-scope-requires : (t : ℕ) → lts.Need-parse-scope-requires (calls t) (ow
 parse-scope-requires t c κs =
     let g = rw (c .before .before .d2 .given .1) at (c .before .before .before .before .before .before .take-item .ensures) in
     let a = c .before .before .before .before .before .before .before .before .before .before .before .before .before .before .before .pre in
-    let same = c .before .before .before .before .before .before .take-item .kept .1 .1 .0 ∙ behind t (c .before .before .before .before .before .before .before .before .before .before) .0 in
+    let same = c .before .before .before .before .before .before .take-item .kept .1 .1 .0 ∙ past-vars t (c .before .before .before .before .before .before .before .before .before .before) .0 in
     (omega (arith, g .0, a .0), (omega (arith, g .1 .0), a .1 .1, omega (arith, same, a .1 .2), omega (arith, a .1 .3)))
 
 enum-known-e : (t : ℕ) → lts.Need-enum-known-e (calls t) (own t) reads.Post Inv μ
@@ -118,7 +118,7 @@ loop-less-2 t c =
 
 loop-again-2 : (t : ℕ) → lts.Need-loop-again-2 (calls t) (own t) reads.Post Inv μ
 loop-again-2 t c =
-    let b = behind t (c .before .before .before .before .before .before .before .before .before .before .before .before .before .before .before .before) in
+    let b = past-vars t (c .before .before .before .before .before .before .before .before .before .before .before .before .before .before .before .before) in
     let g = rw (c .before .before .before .before .before .before .before .before .d2 .given .1) at (c .before .before .before .before .before .before .before .before .before .before .before .before .take-item .ensures) in
     let f = rw (c .before .e .given .1) at (c .before .before .before .before .before .parse-scope .ensures) in
     (c .before .before .before .before .before .parse-scope .kept .1 .1 .0 ∙ c .before .before .before .before .before .before .before .before .before .before .before .before .take-item .kept .1 .1 .0 ∙ b .0, reached-scope (b .1) _ _ _ _ _ g f)
@@ -127,13 +127,13 @@ enum-known-r : (t : ℕ) → lts.Need-enum-known-r (calls t) (own t) reads.Post 
 enum-known-r t c = search needs
 
 same-length : (t : ℕ) → lts.Need-same-length (calls t) (own t) reads.Post Inv μ
-same-length t c = c .before .before .before .before .before .parse-scope .kept .1 .1 .0 ∙ c .before .before .before .before .before .before .before .before .before .before .before .before .take-item .kept .1 .1 .0 ∙ behind t (c .before .before .before .before .before .before .before .before .before .before .before .before .before .before .before .before) .0
+same-length t c = c .before .before .before .before .before .parse-scope .kept .1 .1 .0 ∙ c .before .before .before .before .before .before .before .before .before .before .before .before .take-item .kept .1 .1 .0 ∙ past-vars t (c .before .before .before .before .before .before .before .before .before .before .before .before .before .before .before .before) .0
 
 returns : (t : ℕ) → lts.Need-returns (calls t) (own t) reads.Post Inv μ
 returns t c =
     let g = rw (c .before .before .before .before .before .before .before .before .d2 .given .1) at (c .before .before .before .before .before .before .before .before .before .before .before .before .take-item .ensures) in
     let f = rw (c .before .r .given .1) at (c .before .before .before .before .before .parse-scope .ensures) in
-    ends-within (behind t (c .before .before .before .before .before .before .before .before .before .before .before .before .before .before .before .before) .1) _ _ _ _ _ _ _ g f
+    ends-within (past-vars t (c .before .before .before .before .before .before .before .before .before .before .before .before .before .before .before .before) .1) _ _ _ _ _ _ _ g f
 
 enum-known-k : (t : ℕ) → lts.Need-enum-known-k (calls t) (own t) reads.Post Inv μ
 enum-known-k t c = search needs
@@ -142,23 +142,23 @@ close-requires : (t : ℕ) → lts.Need-close-requires (calls t) (own t) reads.P
 close-requires t c κs = search needs
 
 same-length-2 : (t : ℕ) → lts.Need-same-length-2 (calls t) (own t) reads.Post Inv μ
-same-length-2 t c = c .before .before .before .before .before .before .take-item .kept .1 .1 .0 ∙ behind t (c .before .before .before .before .before .before .before .before .before .before) .0
+same-length-2 t c = c .before .before .before .before .before .before .take-item .kept .1 .1 .0 ∙ past-vars t (c .before .before .before .before .before .before .before .before .before .before) .0
 
 returns-2 : (t : ℕ) → lts.Need-returns-2 (calls t) (own t) reads.Post Inv μ
 returns-2 t c =
     let g = rw (c .before .before .k .given .1) at (c .before .before .before .before .before .before .take-item .ensures) in
-    ends-other (behind t (c .before .before .before .before .before .before .before .before .before .before) .1) _ _ _ _ g (c .close .ensures)
+    ends-other (past-vars t (c .before .before .before .before .before .before .before .before .before .before) .1) _ _ _ _ g (c .close .ensures)
 
 enum-known-r-2 : (t : ℕ) → lts.Need-enum-known-r-2 (calls t) (own t) reads.Post Inv μ
 enum-known-r-2 t c = search needs
 
 same-length-3 : (t : ℕ) → lts.Need-same-length-3 (calls t) (own t) reads.Post Inv μ
-same-length-3 t c = c .before .before .before .before .before .take-item .kept .1 .1 .0 ∙ behind t (c .before .before .before .before .before .before .before .before .before) .0
+same-length-3 t c = c .before .before .before .before .before .take-item .kept .1 .1 .0 ∙ past-vars t (c .before .before .before .before .before .before .before .before .before) .0
 
 returns-3 : (t : ℕ) → lts.Need-returns-3 (calls t) (own t) reads.Post Inv μ
 returns-3 t c =
     let g = rw (c .before .r2 .given .1) at (c .before .before .before .before .before .take-item .ensures) in
-    ends-refused (behind t (c .before .before .before .before .before .before .before .before .before) .1) _ _ _ _ g
+    ends-refused (past-vars t (c .before .before .before .before .before .before .before .before .before) .1) _ _ _ _ g
 
 pub +parse-scope-spec : {M : Type 1} → statement M
 +parse-scope-spec = close levels-left λ t. lts.spec (calls t)

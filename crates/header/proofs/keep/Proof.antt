@@ -5,18 +5,6 @@ use borrow.Author.Needs.{needs}
 use Rattle.header.proofs.keep.Statement.{statement}
 use Rattle.header.proofs.keep.Tie as tie
 
-enum-known-k : tie.Need-enum-known-k
-enum-known-k c = search needs
-
-enum-known-k-2 : tie.Need-enum-known-k-2
-enum-known-k-2 c = search needs
-
-enum-known-k-3 : tie.Need-enum-known-k-3
-enum-known-k-3 c = search needs
-
-enum-told : tie.Need-enum-told
-enum-told c = search needs
-
 returns : tie.Need-returns
 unfolding keepOf duty
 returns c = rw (c .before .k .given .1)
@@ -40,10 +28,7 @@ pub keep-spec : {M : Type 1} → statement M
 keep-spec =
     tie.close
     (tie.spec
-    enum-known-k
-    enum-known-k-2
-    enum-known-k-3
-    enum-told
+    (λ c. search needs) (λ c. search needs) (λ c. search needs) (λ c. search needs)
     returns
     returns-2
     returns-3

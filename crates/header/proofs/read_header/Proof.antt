@@ -19,20 +19,11 @@ Inv-loop input rows₀ cap cur₀ n₀ header₀ rows cur n header = (cap ≤ 40
 abbrev μ-loop : tie.MeasureT-loop
 μ-loop input rows₀ cap cur₀ n₀ header₀ rows cur n header = length input - cur .place
 
-capacity-requires : tie.Need-capacity-requires Inv-loop μ-loop
-capacity-requires c κs = search needs
-
-nothing-requires : tie.Need-nothing-requires Inv-loop μ-loop
-nothing-requires c κs = search needs
-
 loop-holds : tie.Need-loop-holds Inv-loop μ-loop
 loop-holds c = (omega (arith, c .before .capacity .ensures), omega (arith, c .before .capacity .ensures), omega arith, refl, rw (c .before .capacity .ensures, c .nothing .ensures))
 
 take-item-requires : tie.Need-take-item-requires Inv-loop μ-loop
 take-item-requires c κs = let i = c .before .loop .inv in (i .0, omega (arith, i .1, i .3), omega arith)
-
-enum-known-d : tie.Need-enum-known-d Inv-loop μ-loop
-enum-known-d c = search needs
 
 add-n : tie.Need-add-n Inv-loop μ-loop
 add-n c =
@@ -50,9 +41,6 @@ loop-again c =
     let g = rw (c .before .d .given .1) at (c .before .before .before .before .before .take-item .ensures) in
     (i .0, i .1, omega (arith, g .0), c .before .before .before .before .before .take-item .kept .1 .1 .0 ∙ i .3, i .4 ∙ g .2 [] (c .before .before .before .before .before .before .before .loop .header) (refl, refl))
 
-enum-known-d-2 : tie.Need-enum-known-d-2 Inv-loop μ-loop
-enum-known-d-2 c = search needs
-
 add-parse-scope : tie.Need-add-parse-scope Inv-loop μ-loop
 add-parse-scope c =
     let g = rw (c .before .before .d2 .given .1) at (c .before .before .before .before .before .before .take-item .ensures) in
@@ -67,9 +55,6 @@ parse-scope-requires c κs =
     let g = rw (c .before .before .d2 .given .1) at (c .before .before .before .before .before .before .take-item .ensures) in
     let same = c .before .before .before .before .before .before .take-item .kept .1 .1 .0 ∙ i .3 in
     (omega (arith, g .1 .0), i .0, omega (arith, same, i .1), omega arith)
-
-enum-known-e : tie.Need-enum-known-e Inv-loop μ-loop
-enum-known-e c = search needs
 
 loop-less-2 : tie.Need-loop-less-2 Inv-loop μ-loop
 loop-less-2 c =
@@ -90,12 +75,6 @@ loop-again-2 c =
       i .4 ∙ g .1 .2 [] (l .header) (refl, refl) ∙ f .2 [] (l .header) refl,
     )
 
-enum-known-r : tie.Need-enum-known-r Inv-loop μ-loop
-enum-known-r c = search needs
-
-answer-requires : tie.Need-answer-requires Inv-loop μ-loop
-answer-requires c κs = search needs
-
 same-length : tie.Need-same-length Inv-loop μ-loop
 same-length c = c .before .before .before .before .before .before .parse-scope .kept .1 .1 .0 ∙ c .before .before .before .before .before .before .before .before .before .before .before .before .before .take-item .kept .1 .1 .0 ∙ c .before .before .before .before .before .before .before .before .before .before .before .before .before .before .before .loop .inv .3
 
@@ -109,15 +88,6 @@ returns c =
     rw (c .answer .ensures)
     (settled (a .rows .now) (headerOf (a .input .now) (a .c) (a .rows .now)) (l .header) _ _ _ _
     (i .4 ∙ g .1 .2 [] (l .header) (refl, refl) ∙ f .1 [] (l .header) refl) (omega (arith, f .0, i .1)))
-
-enum-known-k : tie.Need-enum-known-k Inv-loop μ-loop
-enum-known-k c = search needs
-
-keep-requires : tie.Need-keep-requires Inv-loop μ-loop
-keep-requires c κs = search needs
-
-enum-known-h : tie.Need-enum-known-h Inv-loop μ-loop
-enum-known-h c = search needs
 
 loop-less-3 : tie.Need-loop-less-3 Inv-loop μ-loop
 loop-less-3 c =
@@ -134,15 +104,6 @@ loop-again-3 c =
     let kept = rw (c .before .h .given .1) at (keep-here (a .input .now) (c .before .before .before .before .before .before .before .before .before .before .before .before .before .capacity .result) (l .cur) (v .1 .0) (l .rows) (l .n) (l .header) (v .0) (g .1) (g .2) (c .before .before .before .keep .result) (c .before .before .before .keep .ensures)) in
     (i .0, i .1, i .2, c .before .before .before .before .before .before .before .before .before .take-item .kept .1 .1 .0 ∙ i .3, rw (g .0) (i .4 ∙ kept))
 
-enum-known-e-2 : tie.Need-enum-known-e-2 Inv-loop μ-loop
-enum-known-e-2 c = search needs
-
-answer-requires-2 : tie.Need-answer-requires-2 Inv-loop μ-loop
-answer-requires-2 c κs = search needs
-
-same-length-2 : tie.Need-same-length-2 Inv-loop μ-loop
-same-length-2 c = search needs
-
 returns-2 : tie.Need-returns-2 Inv-loop μ-loop
 returns-2 c =
     let l = c .before .before .before .before .before .before .before .before .before .before .before .before .loop in
@@ -153,15 +114,6 @@ returns-2 c =
     let kept = rw (c .before .before .e2 .given .1) at (keep-here (a .input .now) (c .before .before .before .before .before .before .before .before .before .before .before .before .before .before .capacity .result) (l .cur) (v .1 .0) (l .rows) (l .n) (l .header) (v .0) (g .1) (g .2) (c .before .before .before .before .keep .result) (c .before .before .before .before .keep .ensures)) in
     rw (c .answer2 .ensures, g .0)
     (settled (a .rows .now) (headerOf (a .input .now) (a .c) (a .rows .now)) (l .header) _ _ _ _ (i .4 ∙ kept) (omega (arith, i .2, i .1)))
-
-enum-known-r-2 : tie.Need-enum-known-r-2 Inv-loop μ-loop
-enum-known-r-2 c = search needs
-
-answer-requires-3 : tie.Need-answer-requires-3 Inv-loop μ-loop
-answer-requires-3 c κs = search needs
-
-same-length-3 : tie.Need-same-length-3 Inv-loop μ-loop
-same-length-3 c = search needs
 
 returns-3 : tie.Need-returns-3 Inv-loop μ-loop
 returns-3 c =
@@ -178,35 +130,27 @@ read-header-spec =
     (tie.spec
     Inv-loop
     μ-loop
-    capacity-requires
-    nothing-requires
+    (λ c κs. search needs) (λ c κs. search needs)
     loop-holds
     take-item-requires
-    enum-known-d
+    (λ c. search needs)
     add-n
     loop-less
     loop-again
-    enum-known-d-2
+    (λ c. search needs)
     add-parse-scope
     sub-parse-scope
     parse-scope-requires
-    enum-known-e
+    (λ c. search needs)
     loop-less-2
     loop-again-2
-    enum-known-r
-    answer-requires
+    (λ c. search needs) (λ c κs. search needs)
     same-length
     returns
-    enum-known-k
-    keep-requires
-    enum-known-h
+    (λ c. search needs) (λ c κs. search needs) (λ c. search needs)
     loop-less-3
     loop-again-3
-    enum-known-e-2
-    answer-requires-2
-    same-length-2
+    (λ c. search needs) (λ c κs. search needs) (λ c. search needs)
     returns-2
-    enum-known-r-2
-    answer-requires-3
-    same-length-3
+    (λ c. search needs) (λ c κs. search needs) (λ c. search needs)
     returns-3)

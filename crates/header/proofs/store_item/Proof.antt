@@ -7,9 +7,6 @@ use borrow.Author.Needs.{needs}
 use Rattle.header.proofs.store_item.Statement.{statement}
 use Rattle.header.proofs.store_item.Tie as tie
 
-enum-known-k : tie.Need-enum-known-k
-enum-known-k c = search needs
-
 returns : tie.Need-returns
 unfolding itemOf tableOf duty
 returns c = rw (c .before .before .k .given .1, eq-eqb _ _ (c .if1 .taken)) (refl, refl)
@@ -18,48 +15,21 @@ returns-2 : tie.Need-returns-2
 unfolding itemOf tableOf duty
 returns-2 c = rw (c .before .before .before .k .given .1, ne-eqb _ _ (c .before .if1 .left), le-ltb _ _ (c .if2 .taken)) (refl, refl)
 
-put-scope-requires : tie.Need-put-scope-requires
-put-scope-requires c κs = search needs
-
-enum-known-k-2 : tie.Need-enum-known-k-2
-enum-known-k-2 c = search needs
-
 returns-3 : tie.Need-returns-3
 unfolding itemOf tableOf duty
 returns-3 c = rw (c .before .before .k2 .given .1, le-ltb _ _ (c .if3 .taken)) (refl, refl)
-
-variable-requires : tie.Need-variable-requires
-variable-requires c κs = search needs
-
-put-var-requires : tie.Need-put-var-requires
-put-var-requires c κs = search needs
-
-enum-known-k-3 : tie.Need-enum-known-k-3
-enum-known-k-3 c = search needs
 
 returns-4 : tie.Need-returns-4
 unfolding itemOf tableOf duty
 returns-4 c = rw (c .before .before .k3 .given .1, le-ltb _ _ (c .if4 .taken)) (refl, refl)
 
-put-comment-requires : tie.Need-put-comment-requires
-put-comment-requires c κs = search needs
-
-same-length : tie.Need-same-length
-same-length c = search needs
-
 returns-5 : tie.Need-returns-5
 unfolding itemOf tableOf duty
 returns-5 c = rw (c .before .before .before .before .before .before .before .k .given .1, ne-eqb _ _ (c .before .before .before .before .before .if1 .left), lt-ltb _ _ (c .before .before .before .before .if2 .left)) (refl, c .before .before .put-scope .ensures)
 
-same-length-2 : tie.Need-same-length-2
-same-length-2 c = search needs
-
 returns-6 : tie.Need-returns-6
 unfolding itemOf tableOf duty
-returns-6 c = rw (c .before .before .before .before .before .before .before .k2 .given .1, lt-ltb _ _ (c .before .before .before .before .before .if3 .left)) (refl, rw (c .before .before .before .variable .ensures) at (c .before .before .put-var .ensures))
-
-same-length-3 : tie.Need-same-length-3
-same-length-3 c = search needs
+returns-6 c = rw (c .before .before .before .before .before .before .k2 .given .1, lt-ltb _ _ (c .before .before .before .before .if3 .left)) (refl, c .before .before .put-var .ensures)
 
 returns-7 : tie.Need-returns-7
 unfolding itemOf tableOf duty
@@ -72,21 +42,17 @@ pub store-item-spec : {M : Type 1} → statement M
 store-item-spec =
     tie.close
     (tie.spec
-    enum-known-k
+    (λ c. search needs)
     returns
     returns-2
-    put-scope-requires
-    enum-known-k-2
+    (λ c κs. search needs) (λ c. search needs)
     returns-3
-    variable-requires
-    put-var-requires
-    enum-known-k-3
+    (λ c κs. search needs) (λ c. search needs)
     returns-4
-    put-comment-requires
-    same-length
+    (λ c κs. search needs) (λ c. search needs)
     returns-5
-    same-length-2
+    (λ c. search needs)
     returns-6
-    same-length-3
+    (λ c. search needs)
     returns-7
     returns-8)

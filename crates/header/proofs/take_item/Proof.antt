@@ -5,24 +5,6 @@ use borrow.Author.Needs.{needs}
 use Rattle.header.proofs.take_item.Statement.{statement}
 use Rattle.header.proofs.take_item.Tie as tie
 
-next-command-requires : tie.Need-next-command-requires
-next-command-requires c κs = search needs
-
-enum-known-k : tie.Need-enum-known-k
-enum-known-k c = search needs
-
-store-item-requires : tie.Need-store-item-requires
-store-item-requires c κs = search needs
-
-enum-known-r : tie.Need-enum-known-r
-enum-known-r c = search needs
-
-enum-known-d : tie.Need-enum-known-d
-enum-known-d c = search needs
-
-same-length : tie.Need-same-length
-same-length c = search needs
-
 returns : tie.Need-returns
 returns c = took _ _ _ _ _ _ _ _ _ (sym (c .before .before .before .before .before .before .before .next-command .ensures) ∙ c .before .before .before .before .before .k .given .1) _ _ (c .before .before .store-item .ensures)
 
@@ -36,12 +18,8 @@ pub take-item-spec : {M : Type 1} → statement M
 take-item-spec =
     tie.close
     (tie.spec
-    next-command-requires
-    enum-known-k
-    store-item-requires
-    enum-known-r
-    enum-known-d
-    same-length
+    (λ c κs. search needs) (λ c. search needs) (λ c κs. search needs) (λ c. search needs) (λ c. search needs)
+    (λ c. search needs)
     returns
     returns-2
     returns-3)

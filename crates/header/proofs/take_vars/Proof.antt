@@ -5,8 +5,8 @@ use mathlib.Core.Path.{_≡_, refl, sym, _∙_}
 use native.Mathlib.Omega.{arith}
 use borrow.Author.Tests.{not-false}
 use lib.ListN.{length}
-use Rattle.brief.specs.Brief.{Reads}
-use Rattle.parser.specs.Plan.{varDef}
+use Rattle.fast.specs.Fast.{Reads}
+use Rattle.parser_part.specs.Plan.{varDef}
 use Rattle.parser.proofs.Ahead.{good-valid, command-past}
 use Rattle.token.specs.Read.{Valid}
 use Rattle.header.specs.Level.{Passes}
@@ -22,17 +22,11 @@ Inv-loop input rows₀ made cap parent cur₀ n₀ rows cur n =
 abbrev μ-loop : tie.MeasureT-loop
 μ-loop input rows₀ made cap parent cur₀ n₀ rows cur n = cap - n
 
--- what the quick look told
+-- what the quick parse_var told
 told : (c : tie.After-v Inv-loop μ-loop) →
     let v = c .v .given .0 in
     Reads (now (c .before .before .before .before .before .before .before .before .before .args .input)) (c .before .before .before .before .loop .cur .place) (v .1 .0) (varDef (v .0) (v .0 .index))
-told c = rw (c .v .given .1) at (c .before .before .look .ensures)
-
-placed-requires : tie.Need-placed-requires Inv-loop μ-loop
-placed-requires c κs = search needs
-
-so-far-requires : tie.Need-so-far-requires Inv-loop μ-loop
-so-far-requires c κs = search needs
+told c = rw (c .v .given .1) at (c .before .before .parse-var .ensures)
 
 returns : tie.Need-returns Inv-loop μ-loop
 returns c = rw (c .so-far .ensures) (passes-none _ _ _ _ _ _ (c .before .before .before .before .before .pre .0))
@@ -41,11 +35,8 @@ loop-holds : tie.Need-loop-holds Inv-loop μ-loop
 loop-holds c =
     (good-valid _ _ (sym (c .before .placed .ensures) ∙ not-false _ (c .if1 .left)), refl, passes-none _ _ _ _ _ _ (c .before .before .before .before .pre .0))
 
-look-requires : tie.Need-look-requires Inv-loop μ-loop
-look-requires c κs = let v = c .before .loop .inv .0 in (v .within, v .short)
-
-enum-known-v : tie.Need-enum-known-v Inv-loop μ-loop
-enum-known-v c = search needs
+parse-var-requires : tie.Need-parse-var-requires Inv-loop μ-loop
+parse-var-requires c κs = let v = c .before .loop .inv .0 in (v .within, v .short)
 
 put-var-requires : tie.Need-put-var-requires Inv-loop μ-loop
 put-var-requires c κs =
@@ -79,20 +70,11 @@ loop-again c =
       rw (c .before .before .before .before .put-var .ensures) (passes-more _ _ _ _ _ _ _ _ _ _ _ (i .2) q l),
     )
 
-enum-told : tie.Need-enum-told Inv-loop μ-loop
-enum-told c = search needs
-
-so-far-requires-2 : tie.Need-so-far-requires-2 Inv-loop μ-loop
-so-far-requires-2 c κs = search needs
-
 same-length : tie.Need-same-length Inv-loop μ-loop
 same-length c = c .before .before .before .before .before .loop .inv .1
 
 returns-2 : tie.Need-returns-2 Inv-loop μ-loop
 returns-2 c = rw (c .so-far2 .ensures) (c .before .before .before .before .before .loop .inv .2)
-
-so-far-requires-3 : tie.Need-so-far-requires-3 Inv-loop μ-loop
-so-far-requires-3 c κs = search needs
 
 same-length-2 : tie.Need-same-length-2 Inv-loop μ-loop
 same-length-2 c = c .before .before .loop .inv .1
@@ -106,22 +88,20 @@ take-vars-spec =
     (tie.spec
     Inv-loop
     μ-loop
-    placed-requires
-    so-far-requires
+    (λ c κs. search needs) (λ c κs. search needs)
     returns
     loop-holds
-    look-requires
-    enum-known-v
+    parse-var-requires
+    (λ c. search needs)
     put-var-requires
     shared-slice-read-word-read
     word-read-requires
     add-n
     loop-less
     loop-again
-    enum-told
-    so-far-requires-2
+    (λ c. search needs) (λ c κs. search needs)
     same-length
     returns-2
-    so-far-requires-3
+    (λ c κs. search needs)
     same-length-2
     returns-3)

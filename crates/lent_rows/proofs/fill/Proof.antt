@@ -1,7 +1,7 @@
 -- `lent_rows::fill` meets its contract: a walk of its MIR, by hand, with two calls and a loop. The borrow of the rows is opened once, before
 -- the loop, and closed once, after it; a turn calls `struct_at`, takes an element out of the row, stores to it and puts it back.
 -- The invariant where k rows are done: the rows are `fillRows 0 k` of the table and the rows at entry.
--- All that the proof knows of `least` and `struct_at` is that each meets its contract.
+-- All that the proof knows of `text::least` and `struct_at` is that each meets its contract.
 -- Assumes nothing.
 use mathlib.Core.Path.{_≡_, refl, sym, ap, subst, _∙_}
 use mathlib.Core.Logic.{⊎-elim}
@@ -50,17 +50,17 @@ use denote.Triple.Clauses.{ensured, lasts}
 use denote.Triple.Table.{entered, cited}
 use denote.Triple.Walked.{says, Stays, stay-slice, stay-none, stay-none-slice, walkOf, goes-slice, goes-none, goes-none-slice, Walks, ends-at, walked, walk-meets}
 use denote.Exit.{yes}
-use Rattle.header.specs.Rows.{rowAt}
+use Rattle.rows.specs.Rows.{rowAt}
 use Rattle.lent_rows.specs.declared.HeaderRow.{HeaderRow}
 use Rattle.lent_rows.specs.Rows.{structOf, fillRows}
 use Rattle.lent_rows.proofs.Filling.{none, length-fill, one-more, as-many}
 use Rattle.lent_rows.proofs.Counting.{Further, counting, below}
 use Rattle.lent_rows.proofs.HeaderRow as T
 use Rattle.lent_rows.proofs.HeaderRow.Laws as T′
-use Rattle.lent_rows.proofs.least as least
-use Rattle.lent_rows.proofs.least.Symbol as least-def
-use Rattle.lent_rows.proofs.least.Symbol.{name as #lent-rows·least}
-use Rattle.lent_rows.proofs.least.Met as least-thm
+use Rattle.text.proofs.least as least
+use Rattle.text.proofs.least.Symbol as least-def
+use Rattle.text.proofs.least.Symbol.{name as #text·least}
+use Rattle.text.proofs.least.Met as least-thm
 use Rattle.lent_rows.proofs.struct_at as struct-at
 use Rattle.lent_rows.proofs.struct_at.Symbol as struct-at-def
 use Rattle.lent_rows.proofs.struct_at.Symbol.{name as #lent-rows·struct-at}
@@ -232,7 +232,7 @@ module _ {M : Type 1} (𝓤 : URA M) (H : Heap 𝓤) (A : Atoms 𝓤) (W : Given
     turn : (k : ℕ) → Sq W (I k) (runs (𝓣 .C) (𝓣 .Λ) E body.turn-1 (anyQ (Turn k)))
     turn k = ⊎-elim (more k) (ends k) (below k m)
 
-  walk : (𝓣 : Tables 𝓤 H) → Triple 𝓤 (𝓣 .C #lent-rows·least) (Least 𝓤 H A at-mem run) → Triple 𝓤 (𝓣 .C #lent-rows·struct-at) (StructAt 𝓤 H A at-mem run)
+  walk : (𝓣 : Tables 𝓤 H) → Triple 𝓤 (𝓣 .C #text·least) (Least 𝓤 H A at-mem run) → Triple 𝓤 (𝓣 .C #lent-rows·struct-at) (StructAt 𝓤 H A at-mem run)
       → ent 𝓤 (onEntry 𝓤 H A f.signature (κ, (κ′, tt)) (q, (q′, tt)) a vals) (WpFn 𝓤 H (𝓣 .C) (𝓣 .Λ) code.function (sw ∷ s ∷ vint w64 n ∷ []) Post)
   walk 𝓣 known-least known =
       qed W ((‵ (flft κ q) ⊛ ‵ (flft κ′ q′) ⊛ ‵ ftrue) ∷ ‵ (owns (ShrSlice (named 0) κ u64 ∷ MutSlice (named 1) κ′ T.the-row ∷ usize ∷ []) a vals) ∷ []) ∵ enter ! (𝓣 .C) (𝓣 .Λ) code.function (sw ∷ s ∷ vint w64 n ∷ []) _ $
@@ -252,7 +252,7 @@ module _ {M : Type 1} (𝓤 : URA M) (H : Heap 𝓤) (A : Atoms 𝓤) (W : Given
       rewrite ! 1 (λ (l : List HeaderRow). ‵ (row T.the-row fullShare l b o)) (sym (none ws ys)) refl $ use0 W (given (0 ≤ m) (‵ ftrue)) (guardI 𝓤 (0 ≤ m) (emp 𝓤) (omega arith)) $ move ! (0 ∷ 2 ∷ 3 ∷ 4 ∷ 5 ∷ 1 ∷ []) $
       first ! $ blocks ! $ loops ! 𝓣 (Further m) (counting m) (I 𝓣 known m lesser l₀ l₁ l₂ l₃ l₄ l₅ l₆ l₇ l₈ l₉ l₁₀) (turn 𝓣 known m lesser l₀ l₁ l₂ l₃ l₄ l₅ l₆ l₇ l₈ l₉ l₁₀) 0)))))))))))))))
 
-module _ {M : Type 1} (𝓤 : URA M) (H : Heap 𝓤) (A : Atoms 𝓤) (W : Given 𝓤 H A) (mem : Memory → SProp 𝓤) (run : Routine → Fun 𝓤) (𝓣 : Tables 𝓤 H) (known-least : Triple 𝓤 (𝓣 .C #lent-rows·least) (Least 𝓤 H A mem run)) (known : Triple 𝓤 (𝓣 .C #lent-rows·struct-at) (StructAt 𝓤 H A mem run)) where
+module _ {M : Type 1} (𝓤 : URA M) (H : Heap 𝓤) (A : Atoms 𝓤) (W : Given 𝓤 H A) (mem : Memory → SProp 𝓤) (run : Routine → Fun 𝓤) (𝓣 : Tables 𝓤 H) (known-least : Triple 𝓤 (𝓣 .C #text·least) (Least 𝓤 H A mem run)) (known : Triple 𝓤 (𝓣 .C #lent-rows·struct-at) (StructAt 𝓤 H A mem run)) where
   fill-walks : Walks 𝓤 H A f.ended stayed (WpFn 𝓤 H (𝓣 .C) (𝓣 .Λ) code.function) (f.clauses 𝓤 H A mem run)
   fill-walks = walked 𝓤 H A f.ended stayed (f.clauses 𝓤 H A mem run) (WpFn 𝓤 H (𝓣 .C) (𝓣 .Λ) code.function) (λ κs. (slice-vals, (slice-vals, (uint-vals w64, tt))))
       (λ κs. (shr-slice-tells (named 0) (κs .0) u64, (mut-slice-tells (named 1) (κs .1 .0) T.the-row, (uint-tells w64, tt))))
@@ -270,5 +270,5 @@ fill-spec 𝓤 H 𝓜 𝓖 𝓡 =
     entered 𝓤 H (tripleOf 𝓤 H (𝓖 .A) f.signature (f.spec 𝓤 H (𝓖 .A) (𝓜 .mem) (𝓡 .run)))
     (tables 𝓤 H 𝓜 𝓡 code.env .C) (tables 𝓤 H 𝓜 𝓡 code.env .Λ) #lent-rows·fill code.function (code.unfolded 𝓤 H 𝓜 𝓡)
     (fill-meets 𝓤 H (𝓖 .A) (givenOf 𝓤 H 𝓜 𝓖) (𝓜 .mem) (𝓡 .run) (tablesOf 𝓤 H 𝓜 (tables 𝓤 H 𝓜 𝓡 code.env))
-    (cited 𝓤 H (Least 𝓤 H (𝓖 .A) (𝓜 .mem) (𝓡 .run)) 𝓜 𝓡 code.env #lent-rows·least least-def.routine code.calls-lent-rows·least (least-thm.met 𝓤 H 𝓜 𝓖 𝓡))
+    (cited 𝓤 H (Least 𝓤 H (𝓖 .A) (𝓜 .mem) (𝓡 .run)) 𝓜 𝓡 code.env #text·least least-def.routine code.calls-text·least (least-thm.met 𝓤 H 𝓜 𝓖 𝓡))
     (cited 𝓤 H (StructAt 𝓤 H (𝓖 .A) (𝓜 .mem) (𝓡 .run)) 𝓜 𝓡 code.env #lent-rows·struct-at struct-at-def.routine code.calls-lent-rows·struct-at (struct-at-thm.met 𝓤 H 𝓜 𝓖 𝓡)))

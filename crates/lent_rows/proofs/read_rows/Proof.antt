@@ -47,7 +47,8 @@ use denote.Triple.Clauses.{ensured, lasts}
 use denote.Triple.Table.{entered, cited}
 use denote.Triple.Walked.{says, Stays, gave-slice, stay-dropped, walkOf, goes-gave-slice, goes-dropped, Walks, ends-at, walked, walk-meets}
 use denote.Exit.{yes}
-use Rattle.header.specs.Header.{answerOf, filled}
+use Rattle.header.specs.Header.{answerOf}
+use Rattle.rows.specs.Rows.{filled}
 use Rattle.header.specs.declared.HeaderAnswer.{HeaderAnswer}
 use Rattle.header.proofs.HeaderAnswer as D
 use Rattle.header.proofs.HeaderAnswer.Laws as D′

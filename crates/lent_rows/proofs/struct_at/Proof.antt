@@ -5,21 +5,6 @@ use Rattle.lent_rows.specs.Rows.{structOf}
 use Rattle.lent_rows.proofs.struct_at.Statement.{statement}
 use Rattle.lent_rows.proofs.struct_at.Tie as tie
 
-row-at-requires : tie.Need-row-at-requires
-row-at-requires c κs = search needs
-
-enum-known-parent : tie.Need-enum-known-parent
-enum-known-parent c = search needs
-
-enum-known-parent-2 : tie.Need-enum-known-parent-2
-enum-known-parent-2 c = search needs
-
-enum-known-parent-3 : tie.Need-enum-known-parent-3
-enum-known-parent-3 c = search needs
-
-enum-told : tie.Need-enum-told
-enum-told c = search needs
-
 returns : tie.Need-returns
 returns c = ap structOf (sym (c .before .parent .given .1) ∙ c .before .before .before .row-at .ensures)
 
@@ -33,4 +18,4 @@ returns-4 : tie.Need-returns-4
 returns-4 c = ap structOf (sym (c .enum-told .given .1) ∙ c .before .before .row-at .ensures)
 
 pub struct-at-spec : {M : Type 1} → statement M
-struct-at-spec = tie.close (tie.spec row-at-requires enum-known-parent enum-known-parent-2 enum-known-parent-3 enum-told returns returns-2 returns-3 returns-4)
+struct-at-spec = tie.close (tie.spec (λ c κs. search needs) (λ c. search needs) (λ c. search needs) (λ c. search needs) (λ c. search needs) returns returns-2 returns-3 returns-4)

@@ -10,30 +10,15 @@ use Rattle.lent_writer.specs.Lent.{lentStep}
 use Rattle.lent_writer.proofs.step.Statement.{statement}
 use Rattle.lent_writer.proofs.step.Tie as tie
 
-command-requires : tie.Need-command-requires
-command-requires c κs = search needs
-
-enum-known-n : tie.Need-enum-known-n
-enum-known-n c = search needs
-
-enum-known-e : tie.Need-enum-known-e
-enum-known-e c = search needs
-
 -- where the answer r of a call is a
 arm : (w : Writer) {a r : Written} {o : List ℕ} {x : Outcome} → r ≡ a → Does r o x → (lentStep w a ≡ lentStep w (x .answer)) × (o ≡ x .left)
 arm w e d = (ap (lentStep w) (sym e ∙ d .answers), d .leaves)
 
-same-length : tie.Need-same-length
-same-length c = search needs
-
 returns : tie.Need-returns
 returns c = arm _ (c .before .n .given .1) (c .before .before .before .before .before .command .ensures)
-
-same-length-2 : tie.Need-same-length-2
-same-length-2 c = search needs
 
 returns-2 : tie.Need-returns-2
 returns-2 c = arm _ (c .before .e .given .1) (c .before .before .before .before .before .command .ensures)
 
 pub step-spec : {M : Type 1} → statement M
-step-spec = tie.close (tie.spec command-requires enum-known-n enum-known-e same-length returns same-length-2 returns-2)
+step-spec = tie.close (tie.spec (λ c κs. search needs) (λ c. search needs) (λ c. search needs) (λ c. search needs) returns (λ c. search needs) returns-2)

@@ -4,8 +4,8 @@ use mathlib.Core.Path.{_≡_, refl}
 use mathlib.Core.List.{List}
 use Prim.Native.Nat.{ℕ}
 use borrow.Author.Needs.{needs}
-use Rattle.lay.proofs.Storing.{row-text}
-use Rattle.listing.specs.declared.rows.ChangeKind.{ChangeKind}
+use Rattle.emit.proofs.Storing.{row-text}
+use Rattle.listing.specs.declared.changes.ChangeKind.{ChangeKind}
 use Rattle.number.specs.Decimal.{decimalOf}
 use Rattle.text.specs.declared.Placed.{Placed}
 use Rattle.lines.specs.Lines.{timeText, valueText, changeLine}
@@ -13,7 +13,7 @@ use Rattle.lines.proofs.Laying.{Laid, lineOf, wide-is, laid-nothing, la
 use Rattle.lines.proofs.put_change.Statement.{statement}
 use Rattle.lines.proofs.put_change.Tie as tie
 
--- whatever the kind: the line of the words that stand behind these places is the change's
+-- whatever the kind: the line of the words that stand at these places is the change's
 line-is : (c : tie.After-front2) (kind : ChangeKind) {word : List ℕ} → c .before .before .before .before .before .before .before .before .before .before .change .given .0 .1 .1 .0 ≡ kind
     → word ≡ valueText (c .before .before .before .before .before .before .before .before .before .before .before .before .before .before .before .args .width) kind (now (c .before .before .before .before .before .before .before .before .part .result)) → {r : Placed} {left : List ℕ}
     → Laid (lineOf (now (c .before .before .before .before .before .before .before .before .before .before .before .before .before .before .before .args .name)) (now (c .before .before .front .result)) (now (c .front2 .result)) word) (now (c .before .before .before .before .before .before .before .before .before .before .before .before .before .before .before .args .out)) r left

@@ -1,6 +1,6 @@
 -- `lines::put_refused` meets its contract. Assumes nothing.
 use borrow.Author.Needs.{needs}
-use Rattle.lay.proofs.Storing.{row-text}
+use Rattle.emit.proofs.Storing.{row-text}
 use Rattle.number.specs.Decimal.{decimalOf}
 use Rattle.lines.proofs.put_refused.Statement.{statement}
 use Rattle.lines.proofs.put_refused.Tie as tie
@@ -11,7 +11,7 @@ returns c =
     rw (
       row-text (decimalOf (x .number)) (c .before .before .before .before .before .before .before .before .before .before .before .before .before .before .decimal .ensures) (c .before .before .before .before .before .before .before .before .front .ensures),
       row-text (decimalOf (x .line)) (c .before .before .before .before .before .before .before .before .before .before .before .before .decimal2 .ensures) (c .before .before .before .before .before .front2 .ensures),
-    ) at (c .before .before .lay .ensures)
+    ) at (c .before .before .emit .ensures)
 
 pub put-refused-spec : {M : Type 1} → statement M
 put-refused-spec =

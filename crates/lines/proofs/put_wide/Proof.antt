@@ -5,7 +5,7 @@ use mathlib.Core.List.{[], _∷_, map, append-assoc}
 use native.Mathlib.Omega.{arith}
 use borrow.Author.Needs.{needs}
 use lib.ListN.{length-map, length-replicate}
-use Rattle.lay.proofs.Storing.{run}
+use Rattle.emit.proofs.Storing.{run}
 use Rattle.text.specs.Bytes.{bytes}
 use Rattle.value.specs.Values.{lower, filledWith}
 use Rattle.value.specs.declared.Value.{Value}

@@ -5,8 +5,8 @@ use native.Mathlib.Omega.{arith}
 use borrow.Author.Needs.{needs}
 use lib.ListN.{length, take, length-set, length-replicate, getD-replicate}
 use lib.Seq.{take-all}
-use Rattle.lay.specs.Put.{stored}
-use Rattle.lay.proofs.Storing.{stored-none, stored-step}
+use Rattle.emit.specs.Put.{stored}
+use Rattle.emit.proofs.Storing.{stored-none, stored-step}
 use Rattle.value.specs.Values.{filledWith}
 use Rattle.value.specs.declared.Value.{Value}
 use Rattle.lines.proofs.put_zeros.Statement.{statement}

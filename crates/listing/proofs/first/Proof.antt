@@ -3,11 +3,8 @@ use borrow.Author.Needs.{needs}
 use Rattle.listing.proofs.first.Statement.{statement}
 use Rattle.listing.proofs.first.Tie as tie
 
-skip-requires : tie.Need-skip-requires
-skip-requires c κs = search needs
-
 returns : tie.Need-returns
 returns c = rw (c .skip .ensures)
 
 pub first-spec : {M : Type 1} → statement M
-first-spec = tie.close (tie.spec skip-requires returns)
+first-spec = tie.close (tie.spec (λ c κs. search needs) returns)

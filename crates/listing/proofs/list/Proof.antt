@@ -8,8 +8,8 @@ use lib.ListN.{length}
 use Rattle.parser.proofs.Ahead.{good-valid}
 use Rattle.parser.proofs.All.{less-left}
 use Rattle.token.specs.Read.{Valid}
-use Rattle.listing.specs.declared.Look.{Look}
-use Rattle.listing.proofs.Seen.{Saw, saw, read-valid, bad-next}
+use Rattle.listing.specs.declared.Step.{Step}
+use Rattle.listing.proofs.Roles.{Saw, saw, read-valid, bad-next}
 use Rattle.listing.proofs.Listed.{Listed, listed-start, listed-length, passes-read, listed-passes, listed-change, listed-full, listed-refused, listed-done}
 use borrow.Author.Needs.{needs}
 use Rattle.listing.proofs.list.Statement.{statement}
@@ -21,25 +21,19 @@ Inv-loop input code rows₀ cap cur₀ n₀ since₀ rows cur n since = Valid in
 abbrev μ-loop : tie.MeasureT-loop
 μ-loop input code rows₀ cap cur₀ n₀ since₀ rows cur n since = length input - cur .place
 
--- the listing behind the run
+-- the listing after the run
 ran : (c : tie.After-cur Inv-loop μ-loop)
     → let a = c .before .before .before .before .before .before .before .args in
     let l = c .before .before .loop in
-    let r = c .before .run .result in
+    let r = c .before .fast-run .result in
     Listed (now (a .input)) (a .code) (a .c) (now (a .rows)) (l .rows) (r .cursor) (l .n) (r .since)
-ran c = listed-passes _ _ _ _ _ _ _ _ (c .before .before .loop .inv .1) _ _ (c .before .run .ensures)
+ran c = listed-passes _ _ _ _ _ _ _ _ (c .before .before .loop .inv .1) _ _ (c .before .fast-run .ensures)
 
 -- what was read, by what the listing saw
-read : (c : tie.After-look-quick Inv-loop μ-loop) (r : Look) → c .look-quick .result ≡ r
+read : (c : tie.After-step-fast Inv-loop μ-loop) (r : Step) → c .step-fast .result ≡ r
     → let a = c .before .before .before .before .before .before .before .before .args in
-    Saw (now (a .input)) (a .code) (c .before .before .run .result .cursor) r
-read c r e = saw _ _ _ _ r (c .look-quick .ensures) e
-
-placed-requires : tie.Need-placed-requires Inv-loop μ-loop
-placed-requires c κs = search needs
-
-answer-requires : tie.Need-answer-requires Inv-loop μ-loop
-answer-requires c κs = search needs
+    Saw (now (a .input)) (a .code) (c .before .before .fast-run .result .cursor) r
+read c r e = saw _ _ _ _ r (c .step-fast .ensures) e
 
 returns : tie.Need-returns Inv-loop μ-loop
 returns c = rw (c .answer .ensures) (listed-refused _ _ _ _ _ _ _ _ (listed-start _ _ _ _) _ _ _ (bad-next _ _ (sym (c .before .before .placed .ensures) ∙ not-true _ (c .before .if1 .taken))))
@@ -47,33 +41,24 @@ returns c = rw (c .answer .ensures) (listed-refused _ _ _ _ _ _ _ _ (listed-star
 loop-holds : tie.Need-loop-holds Inv-loop μ-loop
 loop-holds c = (good-valid _ _ (sym (c .before .placed .ensures) ∙ not-false _ (c .if1 .left)), listed-start _ _ _ _)
 
-run-requires : tie.Need-run-requires Inv-loop μ-loop
-run-requires c κs = c .loop .inv .0
+fast-run-requires : tie.Need-fast-run-requires Inv-loop μ-loop
+fast-run-requires c κs = c .loop .inv .0
 
-look-quick-requires : tie.Need-look-quick-requires Inv-loop μ-loop
-look-quick-requires c κs = c .before .run .ensures .valid
-
-enum-known-d : tie.Need-enum-known-d Inv-loop μ-loop
-enum-known-d c = search needs
+step-fast-requires : tie.Need-step-fast-requires Inv-loop μ-loop
+step-fast-requires c κs = c .before .fast-run .ensures .valid
 
 loop-less : tie.Need-loop-less Inv-loop μ-loop
 loop-less c =
     omega (
       arith,
       less-left _ _ _ _ (read (c .before .before .before) _ (c .before .d .given .1) .next),
-      c .before .before .before .before .before .run .ensures .past,
+      c .before .before .before .before .before .fast-run .ensures .past,
     )
 
 loop-again : tie.Need-loop-again Inv-loop μ-loop
 loop-again c =
     let p = passes-read _ _ _ _ _ _ (read (c .before .before .before) _ (c .before .d .given .1)) refl in
     (p .valid, listed-passes _ _ _ _ _ _ _ _ (ran (c .before .before .before .before)) _ _ p)
-
-enum-known-d-2 : tie.Need-enum-known-d-2 Inv-loop μ-loop
-enum-known-d-2 c = search needs
-
-full-requires : tie.Need-full-requires Inv-loop μ-loop
-full-requires c κs = search needs
 
 same-length : tie.Need-same-length Inv-loop μ-loop
 same-length c = listed-length _ _ _ _ _ _ _ _ (ran (c .before .before .before .before .before .before))
@@ -99,7 +84,7 @@ loop-less-2 c =
     omega (
       arith,
       less-left _ _ _ _ (read (c .before .before .before .before .before .before .before .before) _ (c .before .before .before .before .before .before .d2 .given .1) .next),
-      c .before .before .before .before .before .before .before .before .before .before .run .ensures .past,
+      c .before .before .before .before .before .before .before .before .before .before .fast-run .ensures .past,
     )
 
 loop-again-2 : tie.Need-loop-again-2 Inv-loop μ-loop
@@ -110,15 +95,12 @@ loop-again-2 c =
       rw (c .before .before .put-change .ensures) (listed-change _ _ _ _ _ _ _ _ l _ _ _ h (c .before .before .before .before .if2 .left)),
     )
 
-enum-known-d-3 : tie.Need-enum-known-d-3 Inv-loop μ-loop
-enum-known-d-3 c = search needs
-
 loop-less-3 : tie.Need-loop-less-3 Inv-loop μ-loop
 loop-less-3 c =
     omega (
       arith,
       less-left _ _ _ _ (read (c .before .before .before) _ (c .before .d3 .given .1) .next),
-      c .before .before .before .before .before .run .ensures .past,
+      c .before .before .before .before .before .fast-run .ensures .past,
     )
 
 loop-again-3 : tie.Need-loop-again-3 Inv-loop μ-loop
@@ -126,23 +108,11 @@ loop-again-3 c =
     let p = passes-read _ _ _ _ _ _ (read (c .before .before .before) _ (c .before .d3 .given .1)) refl in
     (p .valid, listed-passes _ _ _ _ _ _ _ _ (ran (c .before .before .before .before)) _ _ p)
 
-enum-known-d-4 : tie.Need-enum-known-d-4 Inv-loop μ-loop
-enum-known-d-4 c = search needs
-
-answer-requires-2 : tie.Need-answer-requires-2 Inv-loop μ-loop
-answer-requires-2 c κs = search needs
-
 same-length-2 : tie.Need-same-length-2 Inv-loop μ-loop
 same-length-2 c = listed-length _ _ _ _ _ _ _ _ (ran (c .before .before .before .before .before))
 
 returns-3 : tie.Need-returns-3 Inv-loop μ-loop
 returns-3 c = rw (c .answer2 .ensures) (listed-refused _ _ _ _ _ _ _ _ (ran (c .before .before .before .before .before)) _ _ _ (read (c .before .before .before .before) _ (c .before .before .d4 .given .1)))
-
-enum-known-d-5 : tie.Need-enum-known-d-5 Inv-loop μ-loop
-enum-known-d-5 c = search needs
-
-answer-requires-3 : tie.Need-answer-requires-3 Inv-loop μ-loop
-answer-requires-3 c κs = search needs
 
 same-length-3 : tie.Need-same-length-3 Inv-loop μ-loop
 same-length-3 c = listed-length _ _ _ _ _ _ _ _ (ran (c .before .before .before .before .before))
@@ -156,31 +126,27 @@ list-spec =
     (tie.spec
     Inv-loop
     μ-loop
-    placed-requires
-    answer-requires
+    (λ c κs. search needs) (λ c κs. search needs)
     returns
     loop-holds
-    run-requires
-    look-quick-requires
-    enum-known-d
+    fast-run-requires
+    step-fast-requires
+    (λ c. search needs)
     loop-less
     loop-again
-    enum-known-d-2
-    full-requires
+    (λ c. search needs) (λ c κs. search needs)
     same-length
     returns-2
     put-change-requires
     add-n
     loop-less-2
     loop-again-2
-    enum-known-d-3
+    (λ c. search needs)
     loop-less-3
     loop-again-3
-    enum-known-d-4
-    answer-requires-2
+    (λ c. search needs) (λ c κs. search needs)
     same-length-2
     returns-3
-    enum-known-d-5
-    answer-requires-3
+    (λ c. search needs) (λ c κs. search needs)
     same-length-3
     returns-4)

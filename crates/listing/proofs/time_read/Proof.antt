@@ -4,7 +4,7 @@ use mathlib.Core.Path.{_≡_, sym, _∙_}
 use mathlib.Core.List.{[], _∷_}
 use denote.Ref.{now}
 use types.Run.{miss}
-use Rattle.brief.specs.Brief.{Reads}
+use Rattle.fast.specs.Fast.{Reads}
 use Rattle.command.specs.declared.Command.the-variants.{Timestamp}
 use Rattle.listing.proofs.Passing.{reads-there, reads-once}
 use borrow.Author.Needs.{needs}
@@ -16,15 +16,6 @@ read : (c : tie.After-k) (v e : ℕ)
     → let a = c .before .before .before .before .args in
     Reads (now (a .input)) (a .at) e (Timestamp (record { 0 = v })) → c .k .given .0 .0 ≡ Timestamp (record { 0 = v })
 read c v e r = reads-once _ _ _ _ r (c .before .before .before .before .pre .0) _ _ (sym (c .before .before .next-command .ensures) ∙ c .k .given .1)
-
-next-command-requires : tie.Need-next-command-requires
-next-command-requires c κs = search needs
-
-enum-known-k : tie.Need-enum-known-k
-enum-known-k c = search needs
-
-enum-known-k-2 : tie.Need-enum-known-k-2
-enum-known-k-2 c = search needs
 
 returns : tie.Need-returns
 returns c = λ v e r. let h = sym (c .before .k2 .given .1) ∙ read (c .before .before .before .before) v e r in cc
@@ -43,4 +34,4 @@ returns-3 c = λ v e r.
 pub time-read-spec : {M : Type 1} → statement M
 time-read-spec =
     tie.close
-    (tie.spec next-command-requires enum-known-k enum-known-k-2 returns returns-2 returns-3)
+    (tie.spec (λ c κs. search needs) (λ c. search needs) (λ c. search needs) returns returns-2 returns-3)

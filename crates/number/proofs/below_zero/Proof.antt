@@ -11,9 +11,6 @@ use Rattle.number.proofs.below_zero.Tie as tie
 small : (c : tie.After-known-told) → (c .before .n .given .0 .0) < 2 ^ 31 + 1
 small c = rw (c .before .n .given .1) at (c .before .before .before .pre)
 
-enum-known-n : tie.Need-enum-known-n
-enum-known-n c = search needs
-
 cast-t4 : tie.Need-cast-t4
 cast-t4 c = read-wide _ (small c)
 
@@ -23,15 +20,9 @@ sub-t5 c = read-other _ (small c)
 cast-t6 : tie.Need-cast-t6
 cast-t6 c = read-narrow _ (small c)
 
-enum-told : tie.Need-enum-told
-enum-told c = search needs
-
 returns : tie.Need-returns
 returns c = ap Is (read-below _ (small c)) ∙ ap negated (sym (c .before .n .given .1))
 
-returns-2 : tie.Need-returns-2
-returns-2 c = search needs
-
 pub below-zero-spec : {M : Type 1} → statement M
 below-zero-spec =
-    tie.close (tie.spec enum-known-n cast-t4 sub-t5 cast-t6 enum-told returns returns-2)
+    tie.close (tie.spec (λ c. search needs) cast-t4 sub-t5 cast-t6 (λ c. search needs) returns (λ c. search needs))

@@ -12,26 +12,11 @@ Inv-loop n len bytes₀ rest₀ i₀ bytes rest i = Filled n bytes₀ bytes rest
 abbrev μ-loop : tie.MeasureT-loop
 μ-loop n len bytes₀ rest₀ i₀ bytes rest i = i
 
-digits-requires : tie.Need-digits-requires Inv-loop μ-loop
-digits-requires c κs = search needs
-
 loop-holds : tie.Need-loop-holds Inv-loop μ-loop
 loop-holds c = fill-start _ _ _ (c .digits .ensures) (omega (arith, short 19 (c .before .args .n) (omega arith)))
 
-sub-i : tie.Need-sub-i Inv-loop μ-loop
-sub-i c = search needs
-
-cast-bytes : tie.Need-cast-bytes Inv-loop μ-loop
-cast-bytes c = search needs
-
-add-bytes : tie.Need-add-bytes Inv-loop μ-loop
-add-bytes c = search needs
-
 array-write-bytes : tie.Need-array-write-bytes Inv-loop μ-loop
 array-write-bytes c = omega (arith, short 19 (c .before .before .before .args .n) (omega arith))
-
-loop-less : tie.Need-loop-less Inv-loop μ-loop
-loop-less c = search needs
 
 loop-again : tie.Need-loop-again Inv-loop μ-loop
 loop-again c = fill-more _ _ _ _ _ (c .before .loop .inv) (c .loop-test .taken)
@@ -45,12 +30,10 @@ decimal-spec =
     (tie.spec
     Inv-loop
     μ-loop
-    digits-requires
+    (λ c κs. search needs)
     loop-holds
-    sub-i
-    cast-bytes
-    add-bytes
+    (λ c. search needs) (λ c. search needs) (λ c. search needs)
     array-write-bytes
-    loop-less
+    (λ c. search needs)
     loop-again
     returns)

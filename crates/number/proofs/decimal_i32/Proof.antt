@@ -9,17 +9,8 @@ use Rattle.number.proofs.decimal_i32.Tie as tie
 cast-decimal : tie.Need-cast-decimal
 cast-decimal c = write-plain _ (c .before .fits .n) (c .if1 .taken)
 
-decimal-requires : tie.Need-decimal-requires
-decimal-requires c κs = search needs
-
 returns : tie.Need-returns
 returns c = c .decimal .ensures ∙ ap spelled (write-from-zero _ (c .before .before .fits .n) (c .before .if1 .taken))
-
-slice-aggregate-spell : tie.Need-slice-aggregate-spell
-slice-aggregate-spell c = search needs
-
-spell-requires : tie.Need-spell-requires
-spell-requires c κs = search needs
 
 cast-decimal-2 : tie.Need-cast-decimal-2
 cast-decimal-2 c = write-wide _ (c .before .before .before .fits .n)
@@ -29,12 +20,6 @@ sub-decimal c = write-other _ (c .before .before .before .fits .n) (c .before .b
 
 cast-decimal-3 : tie.Need-cast-decimal-3
 cast-decimal-3 c = write-size _ (c .before .before .before .fits .n) (c .before .before .if1 .left)
-
-decimal-requires-2 : tie.Need-decimal-requires-2
-decimal-requires-2 c κs = search needs
-
-join-requires : tie.Need-join-requires
-join-requires c κs = search needs
 
 returns-2 : tie.Need-returns-2
 returns-2 c =
@@ -46,13 +31,11 @@ decimal-i32-spec =
     tie.close
     (tie.spec
     cast-decimal
-    decimal-requires
+    (λ c κs. search needs)
     returns
-    slice-aggregate-spell
-    spell-requires
+    (λ c. search needs) (λ c κs. search needs)
     cast-decimal-2
     sub-decimal
     cast-decimal-3
-    decimal-requires-2
-    join-requires
+    (λ c κs. search needs) (λ c κs. search needs)
     returns-2)

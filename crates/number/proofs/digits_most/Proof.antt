@@ -22,9 +22,6 @@ returns c = read-none _ _ (c .if1 .taken)
 loop-holds : tie.Need-loop-holds Inv-loop μ-loop
 loop-holds c = read-start _ _ (c .if1 .left)
 
-shared-slice-read-b : tie.Need-shared-slice-read-b Inv-loop μ-loop
-shared-slice-read-b c = search needs
-
 returns-2 : tie.Need-returns-2 Inv-loop μ-loop
 returns-2 c =
     read-bad _ _ _ _ (c .before .before .before .loop .inv) (c .before .before .loop-test .taken)
@@ -46,12 +43,6 @@ mul-v c = omega (arith, ltb-false)
 add-v : tie.Need-add-v Inv-loop μ-loop
 add-v c = omega (arith, ltb-false)
 
-add-i : tie.Need-add-i Inv-loop μ-loop
-add-i c = search needs
-
-loop-less : tie.Need-loop-less Inv-loop μ-loop
-loop-less c = search needs
-
 loop-again : tie.Need-loop-again Inv-loop μ-loop
 loop-again c =
     let r = c .before .before .before .before .before .before .loop .inv in
@@ -69,13 +60,12 @@ digits-most-spec =
     μ-loop
     returns
     loop-holds
-    shared-slice-read-b
+    (λ c. search needs)
     returns-2
     cast-d
     returns-3
     mul-v
     add-v
-    add-i
-    loop-less
+    (λ c. search needs) (λ c. search needs)
     loop-again
     returns-4)

@@ -12,20 +12,11 @@ use Rattle.number.proofs.from_zero.Tie as tie
 small : (c : tie.After-known-told) → (c .before .n .given .0 .0) < 2 ^ 31
 small c = rw (c .before .n .given .1) at (c .before .before .before .pre)
 
-enum-known-n : tie.Need-enum-known-n
-enum-known-n c = search needs
-
 cast-t4 : tie.Need-cast-t4
 cast-t4 c = record { sfits = small c }
-
-enum-told : tie.Need-enum-told
-enum-told c = search needs
 
 returns : tie.Need-returns
 returns c = ap Is (toZ-pos w32 _ (small c)) ∙ ap plain (sym (c .before .n .given .1))
 
-returns-2 : tie.Need-returns-2
-returns-2 c = search needs
-
 pub from-zero-spec : {M : Type 1} → statement M
-from-zero-spec = tie.close (tie.spec enum-known-n cast-t4 enum-told returns returns-2)
+from-zero-spec = tie.close (tie.spec (λ c. search needs) cast-t4 (λ c. search needs) returns (λ c. search needs))

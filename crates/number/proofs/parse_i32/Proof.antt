@@ -12,21 +12,6 @@ use Rattle.number.proofs.parse_i32.Tie as tie
 returns : tie.Need-returns
 returns c = signed-none _ (c .if1 .taken)
 
-shared-slice-read-if2 : tie.Need-shared-slice-read-if2
-shared-slice-read-if2 c = search needs
-
-sub-digits-most : tie.Need-sub-digits-most
-sub-digits-most c = search needs
-
-part-digits-most-start : tie.Need-part-digits-most-start
-part-digits-most-start c = search needs
-
-part-digits-most-end : tie.Need-part-digits-most-end
-part-digits-most-end c = search needs
-
-digits-most-requires : tie.Need-digits-most-requires
-digits-most-requires c κs = search needs
-
 below-zero-requires : tie.Need-below-zero-requires
 below-zero-requires c κs = under _ _ _ _ (c .digits-most .ensures) (digits-below _ _) (omega arith)
 
@@ -34,9 +19,6 @@ returns-2 : tie.Need-returns-2
 returns-2 c =
     c .below-zero .ensures ∙ ap negated (c .before .digits-most .ensures)
     ∙ rw (take-rest _ 1) (signed-minus _ (c .before .before .before .if2 .taken))
-
-parse-most-requires : tie.Need-parse-most-requires
-parse-most-requires c κs = search needs
 
 from-zero-requires : tie.Need-from-zero-requires
 from-zero-requires c κs = under _ _ _ _ (c .parse-most .ensures) (parse-below _ _) (omega arith)
@@ -51,13 +33,9 @@ parse-i32-spec =
     tie.close
     (tie.spec
     returns
-    shared-slice-read-if2
-    sub-digits-most
-    part-digits-most-start
-    part-digits-most-end
-    digits-most-requires
+    (λ c. search needs) (λ c. search needs) (λ c. search needs) (λ c. search needs) (λ c κs. search needs)
     below-zero-requires
     returns-2
-    parse-most-requires
+    (λ c κs. search needs)
     from-zero-requires
     returns-3)

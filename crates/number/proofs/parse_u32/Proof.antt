@@ -7,19 +7,10 @@ use borrow.Author.Needs.{needs}
 use Rattle.number.proofs.parse_u32.Statement.{statement}
 use Rattle.number.proofs.parse_u32.Tie as tie
 
-parse-most-requires : tie.Need-parse-most-requires
-parse-most-requires c κs = search needs
-
-enum-known-n : tie.Need-enum-known-n
-enum-known-n c = search needs
-
 cast-t5 : tie.Need-cast-t5
 cast-t5 c =
     let h = accepted _ _ _ (sym (c .before .before .before .parse-most .ensures) ∙ c .before .n .given .1) in
     record { fits = omega arith }
-
-enum-told : tie.Need-enum-told
-enum-told c = search needs
 
 returns : tie.Need-returns
 returns c = ap narrow (sym (c .before .n .given .1) ∙ c .before .before .before .parse-most .ensures)
@@ -29,4 +20,4 @@ returns-2 c = ap narrow (sym (c .enum-told .given .1) ∙ c .before .before .par
 
 pub parse-u32-spec : {M : Type 1} → statement M
 parse-u32-spec =
-    tie.close (tie.spec parse-most-requires enum-known-n cast-t5 enum-told returns returns-2)
+    tie.close (tie.spec (λ c κs. search needs) (λ c. search needs) cast-t5 (λ c. search needs) returns returns-2)

@@ -1,6 +1,6 @@
 -- `parser::act` meets its contract: each word's arm reads that word's plan. Assumes nothing.
 use borrow.Author.Needs.{needs}
-use Rattle.parser.specs.Plan.{run}
+use Rattle.parser_part.specs.Plan.{run}
 use Rattle.parser.proofs.act.Statement.{statement}
 use Rattle.parser.proofs.act.Tie as tie
 
@@ -20,16 +20,10 @@ pub act-spec : {M : Type 1} → statement M
 act-spec =
     tie.close
     (tie.spec
-    (λ c. search needs) (λ c κs. search needs)
-    (λ c. search needs) (λ c κs. search needs)
-    (λ c. search needs) (λ c κs. search needs)
-    (λ c. search needs) (λ c κs. search needs)
-    (λ c. search needs) (λ c κs. search needs)
-    (λ c. search needs) (λ c κs. search needs)
-    (λ c. search needs) (λ c κs. search needs)
-    (λ c. search needs) (λ c κs. search needs)
-    (λ c. search needs) (λ c κs. search needs)
-    (λ c. search needs) (λ c κs. search needs)
+    (λ c. search needs) (λ c κs. search needs) (λ c. search needs) (λ c κs. search needs) (λ c. search needs)
+    (λ c κs. search needs) (λ c. search needs) (λ c κs. search needs) (λ c. search needs) (λ c κs. search needs)
+    (λ c. search needs) (λ c κs. search needs) (λ c. search needs) (λ c κs. search needs) (λ c. search needs)
+    (λ c κs. search needs) (λ c. search needs) (λ c κs. search needs) (λ c. search needs) (λ c κs. search needs)
     (λ c. search needs)
     (λ c. rw (c .before .enum-told .given .1) (c .read-comment .ensures))
     (λ c. rw (c .before .enum-told2 .given .1) (c .read-date .ensures))

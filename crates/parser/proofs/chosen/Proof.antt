@@ -1,6 +1,6 @@
 -- `parser::chosen` meets its contract: each kind's arm reads that kind's plan. Assumes nothing.
 use borrow.Author.Needs.{needs}
-use Rattle.parser.specs.Plan.{run}
+use Rattle.parser_part.specs.Plan.{run}
 use Rattle.parser.proofs.chosen.Statement.{statement}
 use Rattle.parser.proofs.chosen.Tie as tie
 
@@ -12,13 +12,9 @@ pub chosen-spec : {M : Type 1} → statement M
 chosen-spec =
     tie.close
     (tie.spec
-    (λ c. search needs) (λ c κs. search needs)
-    (λ c. search needs) (λ c κs. search needs)
-    (λ c. search needs) (λ c κs. search needs)
-    (λ c. search needs) (λ c κs. search needs)
-    (λ c. search needs) (λ c κs. search needs)
-    (λ c. search needs) (λ c κs. search needs)
-    (λ c. search needs)
+    (λ c. search needs) (λ c κs. search needs) (λ c. search needs) (λ c κs. search needs) (λ c. search needs)
+    (λ c κs. search needs) (λ c. search needs) (λ c κs. search needs) (λ c. search needs) (λ c κs. search needs)
+    (λ c. search needs) (λ c κs. search needs) (λ c. search needs)
     (λ c. rw (c .before .enum-told .given .1) (c .parse-command .ensures))
     (λ c. rw (c .before .enum-told2 .given .1) (c .parse-timestamp .ensures))
     (λ c. rw (c .before .before .k .given .1) (c .parse-scalar .ensures))

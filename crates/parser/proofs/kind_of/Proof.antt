@@ -2,7 +2,7 @@
 use mathlib.Core.Logic.{inl, inr, ⊎-elim}
 use Rattle.text.specs.Bytes.{bytes, has}
 use Rattle.text.proofs.Has.{has-not}
-use Rattle.parser.specs.Plan.{kindOf}
+use Rattle.parser_part.specs.Plan.{kindOf}
 use Rattle.parser.proofs.kind_of.Statement.{statement}
 use Rattle.parser.proofs.kind_of.Tie as tie
 

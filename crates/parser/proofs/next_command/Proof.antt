@@ -16,9 +16,6 @@ use Rattle.parser.proofs.Ahead.{good-valid}
 use Rattle.parser.proofs.next_command.Statement.{statement}
 use Rattle.parser.proofs.next_command.Tie as tie
 
-placed-requires : tie.Need-placed-requires
-placed-requires c κs = search needs
-
 is-good : (c : tie.Then1) → isGood (now (c .before .before .before .args .input)) (c .before .before .before .args .c) ≡ true
 is-good c = sym (c .before .placed .ensures) ∙ c .if1 .taken
 
@@ -38,17 +35,8 @@ returns c =
     let at-end : length (now (k .before .before .before .before .args .input)) ≤ k .skip .result .place = omega arith in
     rw (is-good (k .before), ← k .skip .ensures, le-ltb _ _ at-end, c .end-read .ensures)
 
-shared-slice-read-b : tie.Need-shared-slice-read-b
-shared-slice-read-b c = search needs
-
-add-word-end-read : tie.Need-add-word-end-read
-add-word-end-read c = search needs
-
 word-end-read-requires : tie.Need-word-end-read-requires
 word-end-read-requires c κs = omega (arith, start-valid (c .before .before))
-
-kind-of-requires : tie.Need-kind-of-requires
-kind-of-requires c κs = search needs
 
 -- the first byte after the blanks is none, so no newline
 first-read : (c : tie.After-word-end-read)
@@ -79,14 +67,13 @@ pub next-command-spec : {M : Type 1} → statement M
 next-command-spec =
     tie.close
     (tie.spec
-    placed-requires
+    (λ c κs. search needs)
     skip-requires
     end-read-requires
     returns
-    shared-slice-read-b
-    add-word-end-read
+    (λ c. search needs) (λ c. search needs)
     word-end-read-requires
-    kind-of-requires
+    (λ c κs. search needs)
     chosen-requires
     returns-2
     returns-3)

@@ -18,12 +18,13 @@ use Rattle.parser.specs.Next.{isGood}
 use Rattle.parser.proofs.Ahead.{good-valid}
 use Rattle.parser.proofs.placed.Statement.{statement}
 use Rattle.parser.proofs.placed.Tie as tie
+use Rattle.text.specs.Texts.{limit}
 
 not-good : (s : List ℕ) (c : Cursor) → (Valid s c → ⊥) → false ≡ isGood s c
 not-good s c h = by-test (isGood s c) (λ e. absurd (h (good-valid s c e))) (λ e. sym e)
 
 -- where all else is right, the line decides
-by-line : (s : List ℕ) (c : Cursor) → length s ≤ 4294967295 → c .place ≤ length s → 1 ≤ c .line → isGood s c ≡ leb (nextLine c) (c .place + 1)
+by-line : (s : List ℕ) (c : Cursor) → length s ≤ limit → c .place ≤ length s → 1 ≤ c .line → isGood s c ≡ leb (nextLine c) (c .place + 1)
 unfolding isGood
 by-line s c p q r = rw (le-leb _ _ p, le-leb _ _ q, le-leb _ _ r)
 
@@ -43,9 +44,6 @@ returns-2 c = not-good _ _ (λ v. omega arith)
 returns-3 : tie.Need-returns-3
 returns-3 c = not-good _ _ (λ v. omega arith)
 
-add-result : tie.Need-add-result
-add-result c = search needs
-
 returns-4 : tie.Need-returns-4
 returns-4 c = rw (decided (c .before .before), c .before .if4 .taken, leb-one)
 
@@ -53,4 +51,4 @@ returns-5 : tie.Need-returns-5
 returns-5 c = rw (decided (c .before .before), c .before .if4 .left, add-zero)
 
 pub placed-spec : {M : Type 1} → statement M
-placed-spec = tie.close (tie.spec returns returns-2 returns-3 add-result returns-4 returns-5)
+placed-spec = tie.close (tie.spec returns returns-2 returns-3 (λ c. search needs) returns-4 returns-5)

@@ -11,7 +11,7 @@ use Rattle.parser.specs.Next.{isGood, nextFrom}
 use Rattle.parser.proofs.Ahead.{good-valid}
 use Rattle.parser.proofs.All.{less-left}
 use Rattle.token.specs.declared.Cursor.{Cursor}
-use Rattle.records.specs.Read.{behind, Ran}
+use Rattle.records.specs.Read.{asSlow, Ran}
 use Rattle.records.specs.declared.Step.{Step}
 use Rattle.records.proofs.Taken.{Stepped, told, ran-start, ran-length, ran-join, ran-read, ran-full, ran-last, read-bad}
 use borrow.Author.Needs.{needs}
@@ -30,42 +30,36 @@ good : (c : tie.Else1 Inv-loop μ-loop) →
     isGood (now (a .input)) (a .c) ≡ true
 good c = sym (c .before .placed .ensures) ∙ not-false _ (c .if1 .left)
 
-abbrev input-of : tie.After-run Inv-loop μ-loop → List ℕ
+abbrev input-of : tie.After-fast-run Inv-loop μ-loop → List ℕ
 input-of c = now (c .before .before .before .before .before .before .before .args .input)
 
-abbrev Comes : tie.After-run Inv-loop μ-loop → Cursor → ℕ → List ℕ → Type 0
+abbrev Comes : tie.After-fast-run Inv-loop μ-loop → Cursor → ℕ → List ℕ → Type 0
 Comes c = let a = c .before .before .before .before .before .before .before .args in Ran (input-of c) (a .c) 0 (now (a .records))
 
-come : (c : tie.After-run Inv-loop μ-loop) → Comes c (c .run .result .cursor) (c .run .result .count) (c .run .last .1 .1 .0)
-come c = ran-join _ _ _ _ _ _ _ (c .before .before .loop .inv) _ _ _ (c .run .ensures)
+come : (c : tie.After-fast-run Inv-loop μ-loop) → Comes c (c .fast-run .result .cursor) (c .fast-run .result .count) (c .fast-run .last .1 .1 .0)
+come c = ran-join _ _ _ _ _ _ _ (c .before .before .loop .inv) _ _ _ (c .fast-run .ensures)
 
-abbrev run-of : tie.After-step-quick Inv-loop μ-loop → tie.After-run Inv-loop μ-loop
+abbrev run-of : tie.After-step-fast Inv-loop μ-loop → tie.After-fast-run Inv-loop μ-loop
 run-of c = c .before .before .before .before .before .before
 
-abbrev Told : tie.After-step-quick Inv-loop μ-loop → Step → Type 0
-Told c q = let s = input-of (run-of c) in let d = run-of c .run .result .cursor in Stepped (nextFrom s d) (behind s d q)
+abbrev Told : tie.After-step-fast Inv-loop μ-loop → Step → Type 0
+Told c q = let s = input-of (run-of c) in let d = run-of c .fast-run .result .cursor in Stepped (nextFrom s d) (asSlow s d q)
 
-step : (c : tie.After-step-quick Inv-loop μ-loop) (q : Step) → c .step-quick .result ≡ q → Told c q
-step c q e = told _ _ _ _ q (c .step-quick .ensures .0) e
+step : (c : tie.After-step-fast Inv-loop μ-loop) (q : Step) → c .step-fast .result ≡ q → Told c q
+step c q e = told _ _ _ _ q (c .step-fast .ensures .0) e
 
 inside : (c : tie.After-end Inv-loop μ-loop) → c .end .given .0 .0 < length (input-of (run-of (c .before .before .before .before)))
-inside c = rw (c .end .given .1) at (c .before .before .before .before .step-quick .ensures .1)
+inside c = rw (c .end .given .1) at (c .before .before .before .before .step-fast .ensures .1)
 
 -- a command was read: less is left, and one more is made
-less : (c : tie.After-step-quick Inv-loop μ-loop) (d : Cursor) → Told c (Step.Read d) →
+less : (c : tie.After-step-fast Inv-loop μ-loop) (d : Cursor) → Told c (Step.Read d) →
     let s = input-of (run-of c) in
     length s - d .place < length s - run-of c .before .before .loop .cur .place
-less c d q = omega (arith, less-left _ _ _ _ (q .1), run-of c .run .ensures .past)
+less c d q = omega (arith, less-left _ _ _ _ (q .1), run-of c .fast-run .ensures .past)
 
-more : (c : tie.After-step-quick Inv-loop μ-loop) (d : Cursor) → Told c (Step.Read d)
-    → Comes (run-of c) d (run-of c .run .result .count + 1) (c .step-quick .last .1 .1 .0)
-more c d q = ran-read _ _ _ _ _ _ (come (run-of c)) d q _ (c .step-quick .ensures .2) (c .before .before .if2 .left)
-
-placed-requires : tie.Need-placed-requires Inv-loop μ-loop
-placed-requires c κs = search needs
-
-answer-requires : tie.Need-answer-requires Inv-loop μ-loop
-answer-requires c κs = search needs
+more : (c : tie.After-step-fast Inv-loop μ-loop) (d : Cursor) → Told c (Step.Read d)
+    → Comes (run-of c) d (run-of c .fast-run .result .count + 1) (c .step-fast .last .1 .1 .0)
+more c d q = ran-read _ _ _ _ _ _ (come (run-of c)) d q _ (c .step-fast .ensures .2) (c .before .before .if2 .left)
 
 returns : tie.Need-returns Inv-loop μ-loop
 returns c = rw (c .answer .ensures) (read-bad _ _ _ (sym (c .before .before .placed .ensures) ∙ not-true _ (c .before .if1 .taken)))
@@ -73,11 +67,8 @@ returns c = rw (c .answer .ensures) (read-bad _ _ _ (sym (c .before .before .pla
 loop-holds : tie.Need-loop-holds Inv-loop μ-loop
 loop-holds c = ran-start _ _ _ _ (good-valid _ _ (good c)) (omega arith)
 
-run-requires : tie.Need-run-requires Inv-loop μ-loop
-run-requires c κs = let l = c .before .loop .inv in (l .valid, omega (arith, l .room, ran-length _ _ _ _ _ _ _ l))
-
-answer-requires-2 : tie.Need-answer-requires-2 Inv-loop μ-loop
-answer-requires-2 c κs = search needs
+fast-run-requires : tie.Need-fast-run-requires Inv-loop μ-loop
+fast-run-requires c κs = let l = c .before .loop .inv in (l .valid, omega (arith, l .room, ran-length _ _ _ _ _ _ _ l))
 
 same-length : tie.Need-same-length Inv-loop μ-loop
 same-length c = ran-length _ _ _ _ _ _ _ (come (c .before .before .before .before .before))
@@ -87,23 +78,17 @@ returns-2 c =
     let r = c .before .before .before .before .before in
     rw (c .answer2 .ensures) (ran-full _ _ _ _ _ _ (come r) (good (r .before .before .before)) (omega (arith, c .before .if2 .taken)))
 
-step-quick-requires : tie.Need-step-quick-requires Inv-loop μ-loop
-step-quick-requires c κs =
+step-fast-requires : tie.Need-step-fast-requires Inv-loop μ-loop
+step-fast-requires c κs =
     let l = come (c .before .before .before .before .before) in
     (l .valid, omega (arith, ran-length _ _ _ _ _ _ _ l, c .before .if2 .left))
-
-enum-known-end : tie.Need-enum-known-end Inv-loop μ-loop
-enum-known-end c = search needs
-
-add-n : tie.Need-add-n Inv-loop μ-loop
-add-n c = search needs
 
 shared-slice-read-word-read : tie.Need-shared-slice-read-word-read Inv-loop μ-loop
 shared-slice-read-word-read c = inside (c .before .before)
 
 word-read-requires : tie.Need-word-read-requires Inv-loop μ-loop
 word-read-requires c κs =
-    omega (arith, inside (c .before .before), c .before .before .before .before .before .before .before .before .before .before .before .before .run .ensures .valid)
+    omega (arith, inside (c .before .before), c .before .before .before .before .before .before .before .before .before .before .before .before .fast-run .ensures .valid)
 
 loop-less : tie.Need-loop-less Inv-loop μ-loop
 loop-less c =
@@ -115,32 +100,20 @@ loop-again c =
     let q = c .before .before .before .before .before .before .before in
     rw (c .word-read .ensures) (more q _ (step q _ (c .before .before .before .end .given .1)))
 
-enum-known-d : tie.Need-enum-known-d Inv-loop μ-loop
-enum-known-d c = search needs
-
-add-n-2 : tie.Need-add-n-2 Inv-loop μ-loop
-add-n-2 c = search needs
-
 loop-less-2 : tie.Need-loop-less-2 Inv-loop μ-loop
 loop-less-2 c = let q = c .before .before .before .before .before in less q _ (step q _ (c .before .d .given .1))
 
 loop-again-2 : tie.Need-loop-again-2 Inv-loop μ-loop
 loop-again-2 c = let q = c .before .before .before .before .before in more q _ (step q _ (c .before .d .given .1))
 
-enum-known-d-2 : tie.Need-enum-known-d-2 Inv-loop μ-loop
-enum-known-d-2 c = search needs
-
-answer-requires-3 : tie.Need-answer-requires-3 Inv-loop μ-loop
-answer-requires-3 c κs = search needs
-
 same-length-2 : tie.Need-same-length-2 Inv-loop μ-loop
-same-length-2 c = let q = c .before .before .before .before .before .before in q .step-quick .kept .1 .1 .0 ∙ ran-length _ _ _ _ _ _ _ (come (run-of q))
+same-length-2 c = let q = c .before .before .before .before .before .before in q .step-fast .kept .1 .1 .0 ∙ ran-length _ _ _ _ _ _ _ (come (run-of q))
 
 returns-3 : tie.Need-returns-3 Inv-loop μ-loop
 returns-3 c =
     let q = c .before .before .before .before .before .before in
     let r = run-of q in
-    rw (c .answer3 .ensures, q .step-quick .ensures .2)
+    rw (c .answer3 .ensures, q .step-fast .ensures .2)
     (ran-last _ _ _ _ _ _ (come r) (good (r .before .before .before)) _ _ (step q _ (c .before .before .d2 .given .1)) (q .before .before .if2 .left))
 
 pub read-spec : {M : Type 1} → statement M
@@ -149,26 +122,22 @@ read-spec =
     (tie.spec
     Inv-loop
     μ-loop
-    placed-requires
-    answer-requires
+    (λ c κs. search needs) (λ c κs. search needs)
     returns
     loop-holds
-    run-requires
-    answer-requires-2
+    fast-run-requires
+    (λ c κs. search needs)
     same-length
     returns-2
-    step-quick-requires
-    enum-known-end
-    add-n
+    step-fast-requires
+    (λ c. search needs) (λ c. search needs)
     shared-slice-read-word-read
     word-read-requires
     loop-less
     loop-again
-    enum-known-d
-    add-n-2
+    (λ c. search needs) (λ c. search needs)
     loop-less-2
     loop-again-2
-    enum-known-d-2
-    answer-requires-3
+    (λ c. search needs) (λ c κs. search needs)
     same-length-2
     returns-3)

@@ -13,41 +13,11 @@ Inv-loop input at len₀ i₀ len i = Unit
 abbrev μ-loop : tie.MeasureT-loop
 μ-loop input at len₀ i₀ len i = length input - i
 
-loop-holds : tie.Need-loop-holds Inv-loop μ-loop
-loop-holds c = search needs
-
-shared-slice-read-b : tie.Need-shared-slice-read-b Inv-loop μ-loop
-shared-slice-read-b c = search needs
-
-add-i : tie.Need-add-i Inv-loop μ-loop
-add-i c = search needs
-
-case-in-requires : tie.Need-case-in-requires Inv-loop μ-loop
-case-in-requires c κs = search needs
-
-returns : tie.Need-returns Inv-loop μ-loop
-returns c = search needs
-
-returns-2 : tie.Need-returns-2 Inv-loop μ-loop
-returns-2 c = search needs
-
 mul-len : tie.Need-mul-len Inv-loop μ-loop
 mul-len c = omega (arith, ltb-false)
 
-wide-requires : tie.Need-wide-requires Inv-loop μ-loop
-wide-requires c κs = search needs
-
 add-len : tie.Need-add-len Inv-loop μ-loop
 add-len c = omega (arith, ltb-false)
-
-loop-less : tie.Need-loop-less Inv-loop μ-loop
-loop-less c = search needs
-
-loop-again : tie.Need-loop-again Inv-loop μ-loop
-loop-again c = search needs
-
-returns-3 : tie.Need-returns-3 Inv-loop μ-loop
-returns-3 c = search needs
 
 pub case-at-spec : {M : Type 1} → statement M
 case-at-spec =
@@ -55,15 +25,9 @@ case-at-spec =
     (tie.spec
     Inv-loop
     μ-loop
-    loop-holds
-    shared-slice-read-b
-    add-i
-    case-in-requires
-    returns
-    returns-2
+    (λ c. search needs) (λ c. search needs) (λ c. search needs) (λ c κs. search needs) (λ c. search needs)
+    (λ c. search needs)
     mul-len
-    wide-requires
+    (λ c κs. search needs)
     add-len
-    loop-less
-    loop-again
-    returns-3)
+    (λ c. search needs) (λ c. search needs) (λ c. search needs))

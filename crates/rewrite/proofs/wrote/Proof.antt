@@ -3,12 +3,6 @@ use borrow.Author.Needs.{needs}
 use Rattle.rewrite.proofs.wrote.Statement.{statement}
 use Rattle.rewrite.proofs.wrote.Tie as tie
 
-enum-known-r : tie.Need-enum-known-r
-enum-known-r c = search needs
-
-enum-known-r-2 : tie.Need-enum-known-r-2
-enum-known-r-2 c = search needs
-
 returns : tie.Need-returns
 returns c = rw (c .before .r .given .1)
 
@@ -16,4 +10,4 @@ returns-2 : tie.Need-returns-2
 returns-2 c = rw (c .before .r2 .given .1)
 
 pub wrote-spec : {M : Type 1} → statement M
-wrote-spec = tie.close (tie.spec enum-known-r enum-known-r-2 returns returns-2)
+wrote-spec = tie.close (tie.spec (λ c. search needs) (λ c. search needs) returns returns-2)

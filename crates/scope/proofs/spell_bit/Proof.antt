@@ -15,7 +15,6 @@ pub spell-bit-spec : {M : Type 1} → statement M
 spell-bit-spec =
     tie.close
     (tie.spec
-    (λ c κs. search needs)
-    (λ c. search needs) (λ c κs. search needs) (λ c κs. search needs)
-    (λ c. search needs) (λ c κs. search needs) (λ c κs. search needs)
+    (λ c κs. search needs) (λ c. search needs) (λ c κs. search needs) (λ c κs. search needs) (λ c. search needs)
+    (λ c κs. search needs) (λ c κs. search needs)
     returns)

@@ -1,7 +1,7 @@
 -- `tally::count_commands` meets its contract. Assumes nothing.
 use denote.Ref.{now}
 use Rattle.parser.specs.Next.{nextFrom}
-use Rattle.parser.specs.declared.Next.the-variants.{Command}
+use Rattle.parser_part.specs.declared.Next.the-variants.{Command}
 use Rattle.token.proofs.Reading.{From}
 use Prim.Native.Nat.{_+_, _-_, _≤_, _<_}
 use borrow.Author.Needs.{needs}
@@ -22,12 +22,6 @@ abbrev μ-loop : tie.MeasureT-loop
 
 loop-holds : tie.Need-loop-holds Inv-loop μ-loop
 loop-holds c = (search needs, refl)
-
-next-command-requires : tie.Need-next-command-requires Inv-loop μ-loop
-next-command-requires c κs = search needs
-
-enum-known-step : tie.Need-enum-known-step Inv-loop μ-loop
-enum-known-step c = search needs
 
 -- the arm of a command: what was read, and that the cursor moved
 read : (c : tie.After-step Inv-loop μ-loop) → nextFrom (now (c .before .before .before .before .before .args .input)) (c .before .before .before .loop .cur) ≡ Command (c .step .given .0 .0) (c .step .given .0 .1 .0)
@@ -51,16 +45,10 @@ loop-again c =
     let l = c .before .before .before .before .loop in
     (omega (arith, moved (c .before) .1, l .inv .0), count-step _ (l .n) _ _ _ (read (c .before)) ∙ l .inv .1)
 
-enum-known-step-2 : tie.Need-enum-known-step-2 Inv-loop μ-loop
-enum-known-step-2 c = search needs
-
 returns : tie.Need-returns Inv-loop μ-loop
 returns c =
     let l = c .before .before .before .before .loop in
     sym (count-refused _ (l .n) _ _ _ _ (sym (c .before .before .before .next-command .ensures) ∙ c .before .step2 .given .1)) ∙ l .inv .1
-
-enum-known-step-3 : tie.Need-enum-known-step-3 Inv-loop μ-loop
-enum-known-step-3 c = search needs
 
 returns-2 : tie.Need-returns-2 Inv-loop μ-loop
 returns-2 c =
@@ -74,12 +62,11 @@ count-commands-spec =
     Inv-loop
     μ-loop
     loop-holds
-    next-command-requires
-    enum-known-step
+    (λ c κs. search needs) (λ c. search needs)
     add-n
     loop-less
     loop-again
-    enum-known-step-2
+    (λ c. search needs)
     returns
-    enum-known-step-3
+    (λ c. search needs)
     returns-2)

@@ -13,8 +13,5 @@ returns c = sym (take-all (c .before .args .len) (now (c .before .args .row)) (o
 slice-aggregate-result : tie.Need-slice-aggregate-result
 slice-aggregate-result c = sym (length-take-le _ _ (c .before .if1 .left))
 
-returns-2 : tie.Need-returns-2
-returns-2 c = search needs
-
 pub front-of-spec : {M : Type 1} → statement M
-front-of-spec = tie.close (tie.spec returns slice-aggregate-result returns-2)
+front-of-spec = tie.close (tie.spec returns slice-aggregate-result (λ c. search needs))

@@ -3,14 +3,8 @@ use borrow.Author.Needs.{needs}
 use Rattle.text.proofs.is_word.Statement.{statement}
 use Rattle.text.proofs.is_word.Tie as tie
 
-part-requires : tie.Need-part-requires
-part-requires c κs = search needs
-
-equals-requires : tie.Need-equals-requires
-equals-requires c κs = search needs
-
 returns : tie.Need-returns
 returns c = rw (← c .before .part .ensures) (c .equals .ensures)
 
 pub is-word-spec : {M : Type 1} → statement M
-is-word-spec = tie.close (tie.spec part-requires equals-requires returns)
+is-word-spec = tie.close (tie.spec (λ c κs. search needs) (λ c κs. search needs) returns)

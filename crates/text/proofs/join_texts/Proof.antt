@@ -16,9 +16,6 @@ Inv-loop a b bytes₀ n₀ i₀ bytes n i = Row (a ++ b) bytes n × (n < 32 → 
 abbrev μ-loop : tie.MeasureT-loop
 μ-loop a b bytes₀ n₀ i₀ bytes n i = 32 - n
 
-spell-requires : tie.Need-spell-requires Inv-loop μ-loop
-spell-requires c κs = search needs
-
 loop-holds : tie.Need-loop-holds Inv-loop μ-loop
 loop-holds c =
     let a = now (c .before .before .before .before .args .a) in
@@ -31,21 +28,6 @@ returns c =
     let a = now (c .before .before .before .before .before .before .before .args .a) in
     let b = now (c .before .before .before .before .before .before .before .args .b) in
     row-end (a ++ b) _ _ (l .inv .0) (omega (arith, length-append a b, l .inv .1 (c .before .loop-test .taken)))
-
-shared-slice-read-bytes : tie.Need-shared-slice-read-bytes Inv-loop μ-loop
-shared-slice-read-bytes c = search needs
-
-array-write-bytes : tie.Need-array-write-bytes Inv-loop μ-loop
-array-write-bytes c = search needs
-
-add-n : tie.Need-add-n Inv-loop μ-loop
-add-n c = search needs
-
-add-i : tie.Need-add-i Inv-loop μ-loop
-add-i c = search needs
-
-loop-less : tie.Need-loop-less Inv-loop μ-loop
-loop-less c = search needs
 
 loop-again : tie.Need-loop-again Inv-loop μ-loop
 loop-again c =
@@ -66,13 +48,9 @@ join-texts-spec =
     (tie.spec
     Inv-loop
     μ-loop
-    spell-requires
+    (λ c κs. search needs)
     loop-holds
     returns
-    shared-slice-read-bytes
-    array-write-bytes
-    add-n
-    add-i
-    loop-less
+    (λ c. search needs) (λ c. search needs) (λ c. search needs) (λ c. search needs) (λ c. search needs)
     loop-again
     returns-2)

@@ -17,18 +17,6 @@ loop-holds c = row-start _
 returns : tie.Need-returns Inv-loop μ-loop
 returns c = row-end _ _ _ (c .before .before .loop .inv) (c .if1 .taken)
 
-shared-slice-read-bytes : tie.Need-shared-slice-read-bytes Inv-loop μ-loop
-shared-slice-read-bytes c = search needs
-
-array-write-bytes : tie.Need-array-write-bytes Inv-loop μ-loop
-array-write-bytes c = search needs
-
-add-n : tie.Need-add-n Inv-loop μ-loop
-add-n c = search needs
-
-loop-less : tie.Need-loop-less Inv-loop μ-loop
-loop-less c = search needs
-
 loop-again : tie.Need-loop-again Inv-loop μ-loop
 loop-again c = row-more _ _ _ (c .before .before .before .loop .inv) (c .before .before .loop-test .taken) (c .before .if1 .left)
 
@@ -43,9 +31,6 @@ spell-spec =
     μ-loop
     loop-holds
     returns
-    shared-slice-read-bytes
-    array-write-bytes
-    add-n
-    loop-less
+    (λ c. search needs) (λ c. search needs) (λ c. search needs) (λ c. search needs)
     loop-again
     returns-2)

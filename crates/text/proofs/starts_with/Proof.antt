@@ -7,11 +7,8 @@ use Rattle.text.proofs.starts_with.Tie as tie
 returns : tie.Need-returns
 returns c = starts-none _ _ (c .if1 .taken)
 
-shared-slice-read-result : tie.Need-shared-slice-read-result
-shared-slice-read-result c = search needs
-
 returns-2 : tie.Need-returns-2
 returns-2 c = starts-byte _ _ (c .before .if1 .left)
 
 pub starts-with-spec : {M : Type 1} → statement M
-starts-with-spec = tie.close (tie.spec returns shared-slice-read-result returns-2)
+starts-with-spec = tie.close (tie.spec returns (λ c. search needs) returns-2)

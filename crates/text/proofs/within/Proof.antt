@@ -10,11 +10,8 @@ use Rattle.text.proofs.within.Tie as tie
 returns : tie.Need-returns
 returns c = sym (within-no (now (c .before .args .s)) (c .before .args .t) (omega arith))
 
-sub-left : tie.Need-sub-left
-sub-left c = search needs
-
 returns-2 : tie.Need-returns-2
 returns-2 c = within-left (now (c .before .args .s)) (c .before .args .t) (c .if1 .left)
 
 pub within-spec : {M : Type 1} → statement M
-within-spec = tie.close (tie.spec returns sub-left returns-2)
+within-spec = tie.close (tie.spec returns (λ c. search needs) returns-2)

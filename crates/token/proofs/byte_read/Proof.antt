@@ -5,12 +5,9 @@ use borrow.Author.Needs.{needs}
 use Rattle.token.proofs.byte_read.Statement.{statement}
 use Rattle.token.proofs.byte_read.Tie as tie
 
-word-read-requires : tie.Need-word-read-requires
-word-read-requires c κs = search needs
-
 returns : tie.Need-returns
 unfolding byteRead wordRead
 returns c = c .word-read .ensures
 
 pub byte-read-spec : {M : Type 1} → statement M
-byte-read-spec = tie.close (tie.spec word-read-requires returns)
+byte-read-spec = tie.close (tie.spec (λ c κs. search needs) returns)

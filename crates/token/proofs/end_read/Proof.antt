@@ -5,12 +5,9 @@ use borrow.Author.Needs.{needs}
 use Rattle.token.proofs.end_read.Statement.{statement}
 use Rattle.token.proofs.end_read.Tie as tie
 
-word-end-read-requires : tie.Need-word-end-read-requires
-word-end-read-requires c κs = search needs
-
 returns : tie.Need-returns
 unfolding endRead wordEndRead
 returns c = c .word-end-read .ensures
 
 pub end-read-spec : {M : Type 1} → statement M
-end-read-spec = tie.close (tie.spec word-end-read-requires returns)
+end-read-spec = tie.close (tie.spec (λ c κs. search needs) returns)

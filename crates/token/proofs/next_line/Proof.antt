@@ -4,9 +4,6 @@ use borrow.Author.Needs.{needs}
 use Rattle.token.proofs.next_line.Statement.{statement}
 use Rattle.token.proofs.next_line.Tie as tie
 
-add-result : tie.Need-add-result
-add-result c = search needs
-
 returns : tie.Need-returns
 returns c = rw (c .before .if1 .taken)
 
@@ -14,4 +11,4 @@ returns-2 : tie.Need-returns-2
 returns-2 c = rw (c .if1 .left, add-zero)
 
 pub next-line-spec : {M : Type 1} → statement M
-next-line-spec = tie.close (tie.spec add-result returns returns-2)
+next-line-spec = tie.close (tie.spec (λ c. search needs) returns returns-2)

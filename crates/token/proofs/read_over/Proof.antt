@@ -19,9 +19,6 @@ abbrev μ-loop : tie.MeasureT-loop
 loop-holds : tie.Need-loop-holds Inv-loop μ-loop
 loop-holds c = (c .before .pre .0, c .before .pre .1 .0, refl)
 
-shared-slice-read-byte-read : tie.Need-shared-slice-read-byte-read Inv-loop μ-loop
-shared-slice-read-byte-read c = search needs
-
 byte-read-requires : tie.Need-byte-read-requires Inv-loop μ-loop
 byte-read-requires c κs = omega (arith, c .before .before .before .loop .inv .0)
 
@@ -46,7 +43,7 @@ read-over-spec =
     Inv-loop
     μ-loop
     loop-holds
-    shared-slice-read-byte-read
+    (λ c. search needs)
     byte-read-requires
     loop-less
     loop-again

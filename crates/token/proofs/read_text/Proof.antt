@@ -4,7 +4,7 @@ use mathlib.Core.Path.{_≡_, sym, ap, _∙_}
 use native.Mathlib.Omega.{arith}
 use lib.ListN.{length}
 use denote.Ref.{now}
-use Rattle.text.specs.Texts.{firstEnd}
+use Rattle.command.specs.Words.{firstEnd}
 use Rattle.text.specs.declared.Found.{Found}
 use Rattle.text.proofs.Lists.{take-rest}
 use Rattle.token.specs.Read.{Valid, rest}
@@ -12,21 +12,6 @@ use Rattle.token.proofs.Texts.{over-valid, text-found, text-lost}
 use borrow.Author.Needs.{needs}
 use Rattle.token.proofs.read_text.Statement.{statement}
 use Rattle.token.proofs.read_text.Tie as tie
-
-sub-find-end : tie.Need-sub-find-end
-sub-find-end c = search needs
-
-part-find-end-start : tie.Need-part-find-end-start
-part-find-end-start c = search needs
-
-part-find-end-end : tie.Need-part-find-end-end
-part-find-end-end c = search needs
-
-find-end-requires : tie.Need-find-end-requires
-find-end-requires c κs = search needs
-
-enum-known-found : tie.Need-enum-known-found
-enum-known-found c = search needs
 
 -- what the search found
 sought : (c : tie.After-find-end) → c .find-end .result ≡ firstEnd (rest (now (c .before .before .before .args .input)) (c .before .before .before .args .c))
@@ -47,12 +32,6 @@ add-read-over c = omega (arith, room c)
 read-over-requires : tie.Need-read-over-requires
 read-over-requires c κs = (c .before .before .before .before .before .before .pre, (omega arith, omega (arith, room c)))
 
-enum-told : tie.Need-enum-told
-enum-told c = search needs
-
-read-over-requires-2 : tie.Need-read-over-requires-2
-read-over-requires-2 c κs = search needs
-
 end-read-requires : tie.Need-end-read-requires
 end-read-requires c κs =
     let v : Valid (now (c .before .before .before .before .before .before .args .input)) (c .read-over2 .result) = rw (c .read-over2 .ensures) (over-valid _ _ _ (c .before .before .before .before .before .before .pre)) in
@@ -70,16 +49,11 @@ pub read-text-spec : {M : Type 1} → statement M
 read-text-spec =
     tie.close
     (tie.spec
-    sub-find-end
-    part-find-end-start
-    part-find-end-end
-    find-end-requires
-    enum-known-found
+    (λ c. search needs) (λ c. search needs) (λ c. search needs) (λ c κs. search needs) (λ c. search needs)
     add-end
     add-read-over
     read-over-requires
-    enum-told
-    read-over-requires-2
+    (λ c. search needs) (λ c κs. search needs)
     end-read-requires
     returns
     returns-2)

@@ -9,9 +9,6 @@ use Rattle.token.proofs.Words.{in-input}
 use Rattle.token.proofs.read_token.Statement.{statement}
 use Rattle.token.proofs.read_token.Tie as tie
 
-skip-requires : tie.Need-skip-requires
-skip-requires c κs = search needs
-
 -- the cursor after the blanks is valid
 from-valid : (c : tie.After-skip) → Valid (now (c .before .before .args .input)) (c .skip .result)
 from-valid c = rw (c .skip .ensures) (skipped-valid _ _ (c .before .before .pre))
@@ -29,4 +26,4 @@ returns c =
     rw (← c .before .before .skip .ensures) (c .token-to .ensures (most (c .before .before .before .before .args .limit)) refl (c .before .word-end .ensures))
 
 pub read-token-spec : {M : Type 1} → statement M
-read-token-spec = tie.close (tie.spec skip-requires word-end-requires token-to-requires returns)
+read-token-spec = tie.close (tie.spec (λ c κs. search needs) word-end-requires token-to-requires returns)

@@ -11,9 +11,6 @@ use Rattle.token.proofs.Words.{in-input, values-in}
 use Rattle.token.proofs.read_values.Statement.{statement}
 use Rattle.token.proofs.read_values.Tie as tie
 
-skip-requires : tie.Need-skip-requires
-skip-requires c κs = search needs
-
 -- the cursor after the blanks is valid
 from-valid : (c : tie.After-skip) → Valid (now (c .before .before .args .input)) (c .skip .result)
 from-valid c = rw (c .skip .ensures) (skipped-valid _ _ (c .before .before .pre))
@@ -34,4 +31,4 @@ returns c =
     rw (← c .before .before .skip .ensures) (c .token-to .ensures values refl (passes (c .before)))
 
 pub read-values-spec : {M : Type 1} → statement M
-read-values-spec = tie.close (tie.spec skip-requires values-end-requires token-to-requires returns)
+read-values-spec = tie.close (tie.spec (λ c κs. search needs) values-end-requires token-to-requires returns)

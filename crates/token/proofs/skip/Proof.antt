@@ -22,9 +22,6 @@ loop-holds c = (c .before .pre, refl)
 returns : tie.Need-returns Inv-loop μ-loop
 returns c = sym (skip-end _ _ (c .if1 .taken)) ∙ c .before .loop .inv .1
 
-shared-slice-read-b : tie.Need-shared-slice-read-b Inv-loop μ-loop
-shared-slice-read-b c = search needs
-
 whitespace-byte-requires : tie.Need-whitespace-byte-requires Inv-loop μ-loop
 whitespace-byte-requires c κs = tt
 
@@ -51,7 +48,7 @@ skip-spec =
     μ-loop
     loop-holds
     returns
-    shared-slice-read-b
+    (λ c. search needs)
     whitespace-byte-requires
     byte-read-requires
     loop-less

@@ -5,23 +5,8 @@ use borrow.Author.Needs.{needs}
 use Rattle.token.proofs.token_to.Statement.{statement}
 use Rattle.token.proofs.token_to.Tie as tie
 
-word-end-read-requires : tie.Need-word-end-read-requires
-word-end-read-requires c κs = search needs
-
 returns : tie.Need-returns
 returns c = λ n e long. rw (c .word-end-read .ensures) (here-eof _ _ n _ (c .before .before .before .pre .0) long (c .before .if1 .taken))
-
-shared-slice-read-b : tie.Need-shared-slice-read-b
-shared-slice-read-b c = search needs
-
-word-read-requires : tie.Need-word-read-requires
-word-read-requires c κs = search needs
-
-whitespace-byte-requires : tie.Need-whitespace-byte-requires
-whitespace-byte-requires c κs = search needs
-
-sub-t16 : tie.Need-sub-t16
-sub-t16 c = search needs
 
 returns-2 : tie.Need-returns-2
 returns-2 c =
@@ -39,11 +24,8 @@ pub token-to-spec : {M : Type 1} → statement M
 token-to-spec =
     tie.close
     (tie.spec
-    word-end-read-requires
+    (λ c κs. search needs)
     returns
-    shared-slice-read-b
-    word-read-requires
-    whitespace-byte-requires
-    sub-t16
+    (λ c. search needs) (λ c κs. search needs) (λ c κs. search needs) (λ c. search needs)
     returns-2
     returns-3)

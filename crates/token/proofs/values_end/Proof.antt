@@ -31,14 +31,8 @@ returns c =
     let k = c .before in
     omega (arith, paired k .2, values-none (now (k .before .before .before .args .input)) (k .pairs-end .result) (c .if1 .taken))
 
-shared-slice-read-is-value : tie.Need-shared-slice-read-is-value Inv-loop μ-loop
-shared-slice-read-is-value c = search needs
-
 is-value-requires : tie.Need-is-value-requires Inv-loop μ-loop
 is-value-requires c κs = tt
-
-add-i : tie.Need-add-i Inv-loop μ-loop
-add-i c = search needs
 
 loop-less : tie.Need-loop-less Inv-loop μ-loop
 loop-less c = omega (arith, c .before .before .before .before .pairs-end .ensures .1)
@@ -63,9 +57,9 @@ values-end-spec =
     loop-holds
     pairs-end-requires
     returns
-    shared-slice-read-is-value
+    (λ c. search needs)
     is-value-requires
-    add-i
+    (λ c. search needs)
     loop-less
     loop-again
     returns-2)

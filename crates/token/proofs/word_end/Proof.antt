@@ -17,9 +17,6 @@ Inv-loop input at limit stop i₀ i = (at ≤ i) × (i ≤ stop) × (at + length
 abbrev μ-loop : tie.MeasureT-loop
 μ-loop input at limit stop i₀ i = stop - i
 
-stop-at-requires : tie.Need-stop-at-requires Inv-loop μ-loop
-stop-at-requires c κs = search needs
-
 loop-holds : tie.Need-loop-holds Inv-loop μ-loop
 loop-holds c = (omega arith, omega (arith, c .stop-at .ensures), refl)
 
@@ -32,12 +29,6 @@ whitespace-byte-requires c κs = tt
 returns : tie.Need-returns Inv-loop μ-loop
 returns c =
     rw length-take (omega (arith, c .before .before .before .before .before .stop-at .ensures, ap length (word-stop (now (c .before .before .before .before .before .before .before .args .input)) (c .before .before .before .before .loop .i) (omega (arith, c .before .before .before .before .before .stop-at .ensures)) (sym (c .before .whitespace-byte .ensures) ∙ c .if1 .taken))))
-
-add-i : tie.Need-add-i Inv-loop μ-loop
-add-i c = search needs
-
-loop-less : tie.Need-loop-less Inv-loop μ-loop
-loop-less c = search needs
 
 loop-again : tie.Need-loop-again Inv-loop μ-loop
 loop-again c = (
@@ -58,12 +49,11 @@ word-end-spec =
     (tie.spec
     Inv-loop
     μ-loop
-    stop-at-requires
+    (λ c κs. search needs)
     loop-holds
     shared-slice-read-whitespace-byte
     whitespace-byte-requires
     returns
-    add-i
-    loop-less
+    (λ c. search needs) (λ c. search needs)
     loop-again
     returns-2)

@@ -4,12 +4,9 @@ use borrow.Author.Needs.{needs}
 use Rattle.token.proofs.word_end_read.Statement.{statement}
 use Rattle.token.proofs.word_end_read.Tie as tie
 
-next-line-requires : tie.Need-next-line-requires
-next-line-requires c κs = search needs
-
 returns : tie.Need-returns
 unfolding wordEndRead
 returns c = rw (c .next-line .ensures)
 
 pub word-end-read-spec : {M : Type 1} → statement M
-word-end-read-spec = tie.close (tie.spec next-line-requires returns)
+word-end-read-spec = tie.close (tie.spec (λ c κs. search needs) returns)

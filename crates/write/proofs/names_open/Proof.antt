@@ -12,7 +12,7 @@ returns c = rw (c .enum-told .given .1)
 
 returns-2 : tie.Need-returns-2
 unfolding isOpen
-returns-2 c = rw (c .before .before .before .o .given .1) (ap₂ eqb (c .before .sim-number .ensures) (c .sim-number2 .ensures))
+returns-2 c = rw (c .before .before .before .o .given .1) (ap₂ eqb (c .before .number .ensures) (c .number2 .ensures))
 
 pub names-open-spec : {M : Type 1} → statement M
 names-open-spec =

@@ -5,7 +5,7 @@ use mathlib.Core.Path.{_≡_, refl, sym, ap, _∙_}
 use native.Mathlib.Omega.{arith}
 use lib.ListN.{length}
 use borrow.Author.Needs.{needs}
-use Rattle.peek.specs.Peek.{kindOf}
+use Rattle.rows.specs.Peek.{kindOf}
 use Rattle.write_header.specs.Levels.{Goes}
 use Rattle.write_header.proofs.Items.{leaf, no-row, no-level, not-opened, nested, goes-on, goes-out, fits}
 use Rattle.write_header.proofs.Places.{scope-placed, comment-placed}
@@ -18,9 +18,9 @@ use Rattle.write_header.proofs.+write_item+write_scope.Lts-write_item a
 use Rattle.write_header.proofs.write_scope.Reads as scope
 use Rattle.write_header.proofs.write_scope.Kinds as scope-kinds
 use Rattle.write_header.proofs.+write_item+write_scope.Lts-write_scope as scope-lts
-use Rattle.header.proofs.row_at.Reads as row-at-reads
+use Rattle.rows.proofs.row_at.Reads as row-at-reads
 use Rattle.write_header.proofs.close.Reads as close-reads
-use Rattle.write_header.proofs.good.parent_at.Reads as parent-at-reads
+use Rattle.tree.proofs.parent_at.Reads as parent-at-reads
 use Rattle.write_header.proofs.write_one.Reads as write-one-reads
 use Rattle.write_header.proofs.write_vars.Reads as write-vars-reads
 use Rattle.write_header.proofs.+write_item+write_scope.{statement}

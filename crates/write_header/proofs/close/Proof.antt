@@ -4,17 +4,8 @@ use borrow.Author.Needs.{needs}
 use Rattle.write_header.proofs.close.Statement.{statement}
 use Rattle.write_header.proofs.close.Tie as tie
 
-enum-known-items : tie.Need-enum-known-items
-enum-known-items c = search needs
-
 write-one-requires : tie.Need-write-one-requires
 write-one-requires c κs = (rw (c .before .before .items .given .1) at (c .before .before .before .before .before .before .pre .0), c .before .before .before .before .before .before .pre .1)
-
-enum-known-items-2 : tie.Need-enum-known-items-2
-enum-known-items-2 c = search needs
-
-same-length : tie.Need-same-length
-same-length c = search needs
 
 returns : tie.Need-returns
 returns c = rw (c .before .before .before .before .before .items .given .1) (c .before .before .write-one .ensures)
@@ -25,4 +16,4 @@ returns-2 c = rw (c .before .items2 .given .1) (refl, refl)
 pub close-spec : {M : Type 1} → statement M
 close-spec =
     tie.close
-    (tie.spec enum-known-items write-one-requires enum-known-items-2 same-length returns returns-2)
+    (tie.spec (λ c. search needs) write-one-requires (λ c. search needs) (λ c. search needs) returns returns-2)

@@ -1,7 +1,7 @@
 -- `write_header::header` meets its contract: 25 and 23 are judged first, then the kept values and the rows are poured. Assumes nothing.
 use mathlib.Core.Path.{sym, _∙_}
 use borrow.Author.Tests.{not-true, not-false}
-use Rattle.header.specs.Rows.{rowsOf}
+use Rattle.rows.specs.Rows.{rowsOf}
 use Rattle.write_header.specs.Meanings.{rowMeanings}
 use Rattle.write_header.specs.Pour.{stop}
 use mathlib.Core.List.{[]}
@@ -11,14 +11,8 @@ use borrow.Author.Needs.{needs}
 use Rattle.write_header.proofs.header.Statement.{statement}
 use Rattle.write_header.proofs.header.Tie as tie
 
-misplaced-requires : tie.Need-misplaced-requires
-misplaced-requires c κs = search needs
-
 returns : tie.Need-returns
 returns c = bad-place _ _ _ _ _ _ (sym (c .before .misplaced .ensures) ∙ c .if1 .taken)
-
-good-table-requires : tie.Need-good-table-requires
-good-table-requires c κs = search needs
 
 returns-2 : tie.Need-returns-2
 returns-2 c =
@@ -30,9 +24,6 @@ write-kept-requires c κs =
     let x = inside (a .src .now) (a .h) (a .rows .now) (a .count) (sym (c .before .before .before .before .misplaced .ensures) ∙ c .before .before .before .if1 .left) in
     (x .2 .short, x .0, x .1)
 
-enum-known-at : tie.Need-enum-known-at
-enum-known-at c = search needs
-
 write-rows-requires : tie.Need-write-rows-requires
 write-rows-requires c κs =
     let a = c .before .before .before .before .before .before .before .before .before .before .before .before .before .before .before .args in
@@ -40,21 +31,12 @@ write-rows-requires c κs =
     let y = rw (c .before .before .at .given .1) at (c .before .before .before .before .before .before .write-kept .ensures) in
     (y .1, x .2, sym (c .before .before .before .before .before .before .before .before .before .good-table .ensures) ∙ not-false _ (c .before .before .before .before .before .before .before .before .if2 .left))
 
-enum-known-e : tie.Need-enum-known-e
-enum-known-e c = search needs
-
-same-length : tie.Need-same-length
-same-length c = search needs
-
 returns-3 : tie.Need-returns-3
 returns-3 c =
     let a = c .before .before .before .before .before .before .before .before .before .before .before .before .before .before .before .before .before .before .args in
     let y = rw (c .before .before .before .before .before .at .given .1) at (c .before .before .before .before .before .before .before .before .before .write-kept .ensures) in
     let q = call-pours (a .w) (a .src .now) (a .h) (a .rows .now) (a .count) (a .out .now) (sym (c .before .before .before .before .before .before .before .before .before .before .before .before .before .before .misplaced .ensures) ∙ c .before .before .before .before .before .before .before .before .before .before .before .before .before .if1 .left) (sym (c .before .before .before .before .before .before .before .before .before .before .before .before .good-table .ensures) ∙ not-false _ (c .before .before .before .before .before .before .before .before .before .before .before .if2 .left)) in
     does-too (q ∙ y .2 (rowMeanings (a .src .now) 0 [] (rowsOf (a .rows .now) (a .count)))) (c .before .before .write-rows .ensures)
-
-same-length-2 : tie.Need-same-length-2
-same-length-2 c = search needs
 
 returns-4 : tie.Need-returns-4
 returns-4 c =
@@ -67,15 +49,14 @@ pub header-spec : {M : Type 1} → statement M
 header-spec =
     tie.close
     (tie.spec
-    misplaced-requires
+    (λ c κs. search needs)
     returns
-    good-table-requires
+    (λ c κs. search needs)
     returns-2
     write-kept-requires
-    enum-known-at
+    (λ c. search needs)
     write-rows-requires
-    enum-known-e
-    same-length
+    (λ c. search needs) (λ c. search needs)
     returns-3
-    same-length-2
+    (λ c. search needs)
     returns-4)

@@ -8,33 +8,15 @@ use borrow.Author.Needs.{needs}
 use Rattle.write_header.proofs.write_kept.Statement.{statement}
 use Rattle.write_header.proofs.write_kept.Tie as tie
 
-write-date-requires : tie.Need-write-date-requires
-write-date-requires c κs = search needs
-
-enum-known-at : tie.Need-enum-known-at
-enum-known-at c = search needs
-
 write-version-requires : tie.Need-write-version-requires
 write-version-requires c κs =
     let x = rw (c .before .before .at .given .1) at (c .before .before .before .before .before .before .write-date .ensures) in
     (x .1, c .before .before .before .before .before .before .before .before .before .before .pre .0, c .before .before .before .before .before .before .before .before .before .before .pre .2)
 
-enum-known-past : tie.Need-enum-known-past
-enum-known-past c = search needs
-
 write-timescale-requires : tie.Need-write-timescale-requires
 write-timescale-requires c κs =
     let x = rw (c .before .before .past .given .1) at (c .before .before .before .before .before .before .write-version .ensures) in
     (x .1, c .before .before .before .before .before .before .before .before .before .before .before .before .before .before .before .before .before .pre .0)
-
-enum-known-e : tie.Need-enum-known-e
-enum-known-e c = search needs
-
-enum-known-e-2 : tie.Need-enum-known-e-2
-enum-known-e-2 c = search needs
-
-same-length : tie.Need-same-length
-same-length c = search needs
 
 returns : tie.Need-returns
 returns c =
@@ -47,9 +29,6 @@ returns c =
     then-writes (a .out .now) 0 (a .w) _ _ _ (remarkOf date s (a .h .date)) (remarkOf version s (a .h .version) ++ timescaleOf (a .h .timescale)) (x .2) 0 r left
     (then-writes _ _ _ _ _ _ (remarkOf version s (a .h .version)) (timescaleOf (a .h .timescale)) (y .2) 0 r left (c .before .before .write-timescale .ensures))
 
-same-length-2 : tie.Need-same-length-2
-same-length-2 c = search needs
-
 returns-2 : tie.Need-returns-2
 returns-2 c =
     let a = c .before .before .before .before .before .before .before .before .before .before .before .before .before .before .before .before .args in
@@ -58,9 +37,6 @@ returns-2 c =
     let y = rw (c .before .e .given .1) at (c .before .before .before .before .before .write-version .ensures) in
     then-writes (a .out .now) 0 (a .w) _ _ _ (remarkOf date s (a .h .date)) (remarkOf version s (a .h .version) ++ timescaleOf (a .h .timescale)) (x .2) 0 (Wrote.Refused _ _ _) _
     (then-stops _ _ _ (remarkOf version s (a .h .version)) (timescaleOf (a .h .timescale)) y)
-
-same-length-3 : tie.Need-same-length-3
-same-length-3 c = search needs
 
 returns-3 : tie.Need-returns-3
 returns-3 c =
@@ -73,16 +49,13 @@ pub write-kept-spec : {M : Type 1} → statement M
 write-kept-spec =
     tie.close
     (tie.spec
-    write-date-requires
-    enum-known-at
+    (λ c κs. search needs) (λ c. search needs)
     write-version-requires
-    enum-known-past
+    (λ c. search needs)
     write-timescale-requires
-    enum-known-e
-    enum-known-e-2
-    same-length
+    (λ c. search needs) (λ c. search needs) (λ c. search needs)
     returns
-    same-length-2
+    (λ c. search needs)
     returns-2
-    same-length-3
+    (λ c. search needs)
     returns-3)

@@ -6,41 +6,17 @@ use Rattle.write_header.proofs.Poured.{told}
 use Rattle.write_header.proofs.write_one.Statement.{statement}
 use Rattle.write_header.proofs.write_one.Tie as tie
 
-sub-command : tie.Need-sub-command
-sub-command c = search needs
-
-part-command-start : tie.Need-part-command-start
-part-command-start c = search needs
-
-part-command-end : tie.Need-part-command-end
-part-command-end c = search needs
-
-command-requires : tie.Need-command-requires
-command-requires c κs = search needs
-
-enum-known-n : tie.Need-enum-known-n
-enum-known-n c = search needs
-
 add-t16 : tie.Need-add-t16
 add-t16 c =
     let a = c .before .before .before .before .before .before .before .before .before .args in
     let x = rw (c .before .n .given .1) at (told (a .out .now) (a .at) (a .w) (a .src .now) (a .k) (c .before .before .before .before .before .before .before .before .before .pre .1) (c .before .before .before .before .before .before .before .before .before .pre .0) refl (c .before .before .before .before .before .command .ensures)) in
     omega (arith, x .0, c .before .before .before .before .before .before .before .before .before .good .1 .1 .1 .1 .0)
 
-enum-known-e : tie.Need-enum-known-e
-enum-known-e c = search needs
-
-same-length : tie.Need-same-length
-same-length c = search needs
-
 returns : tie.Need-returns
 returns c =
     let a = c .before .before .before .before .before .before .before .before .before .args in
     let x = rw (c .before .n .given .1) at (told (a .out .now) (a .at) (a .w) (a .src .now) (a .k) (c .before .before .before .before .before .before .before .before .before .pre .1) (c .before .before .before .before .before .before .before .before .before .pre .0) refl (c .before .before .before .before .before .command .ensures)) in
     (refl, x .1, x .2)
-
-same-length-2 : tie.Need-same-length-2
-same-length-2 c = search needs
 
 returns-2 : tie.Need-returns-2
 returns-2 c =
@@ -52,14 +28,9 @@ pub write-one-spec : {M : Type 1} → statement M
 write-one-spec =
     tie.close
     (tie.spec
-    sub-command
-    part-command-start
-    part-command-end
-    command-requires
-    enum-known-n
+    (λ c. search needs) (λ c. search needs) (λ c. search needs) (λ c κs. search needs) (λ c. search needs)
     add-t16
-    enum-known-e
-    same-length
+    (λ c. search needs) (λ c. search needs)
     returns
-    same-length-2
+    (λ c. search needs)
     returns-2)

@@ -12,25 +12,10 @@ write-scope-requires c κs =
     let p = c .before .before .before .before .pre in
     (omega arith, good-parts (a .rows .now) (a .n) (p .2) .0, omega arith, p .0, p .1)
 
-enum-known-past : tie.Need-enum-known-past
-enum-known-past c = search needs
-
 write-one-requires : tie.Need-write-one-requires
 write-one-requires c κs =
     let x = rw (c .before .before .past .given .1) at (c .before .before .before .before .before .before .write-scope .ensures) in
     (x .2, c .before .before .before .before .before .before .before .before .before .before .before .pre .1 .short)
-
-enum-known-end : tie.Need-enum-known-end
-enum-known-end c = search needs
-
-enum-known-e : tie.Need-enum-known-e
-enum-known-e c = search needs
-
-enum-known-e-2 : tie.Need-enum-known-e-2
-enum-known-e-2 c = search needs
-
-same-length : tie.Need-same-length
-same-length c = search needs
 
 returns : tie.Need-returns
 returns c =
@@ -40,9 +25,6 @@ returns c =
     (g .0) (g .1 .0) (g .1 .1 .0) (c .before .before .before .before .before .before .before .before .before .before .before .before .write-scope .last .1 .1 .1 .1 .1 .0)
     (rw (c .before .before .before .before .before .before .before .before .past .given .1) at (c .before .before .before .before .before .before .before .before .before .before .before .before .write-scope .ensures)) (rw (c .before .end .given .1) at (c .before .before .before .before .before .write-one .ensures))
 
-same-length-2 : tie.Need-same-length-2
-same-length-2 c = search needs
-
 returns-2 : tie.Need-returns-2
 returns-2 c =
     let a = c .before .before .before .before .before .before .before .before .before .before .before .before .before .before .before .before .before .args in
@@ -50,9 +32,6 @@ returns-2 c =
     end-stop (a .src .now) (a .rows .now) (a .n) (a .out .now) (a .at) (a .w) (c .before .before .before .before .before .before .before .before .before .before .before .before .before .before .before .before .before .pre .2)
     (g .0) (g .1 .0) (g .1 .1 .0) (c .before .before .before .before .before .before .before .before .before .before .before .before .write-scope .last .1 .1 .1 .1 .1 .0)
     (rw (c .before .before .before .before .before .before .before .before .past .given .1) at (c .before .before .before .before .before .before .before .before .before .before .before .before .write-scope .ensures)) (rw (c .before .e .given .1) at (c .before .before .before .before .before .write-one .ensures))
-
-same-length-3 : tie.Need-same-length-3
-same-length-3 c = search needs
 
 returns-3 : tie.Need-returns-3
 returns-3 c =
@@ -65,14 +44,11 @@ write-rows-spec =
     tie.close
     (tie.spec
     write-scope-requires
-    enum-known-past
+    (λ c. search needs)
     write-one-requires
-    enum-known-end
-    enum-known-e
-    enum-known-e-2
-    same-length
+    (λ c. search needs) (λ c. search needs) (λ c. search needs) (λ c. search needs)
     returns
-    same-length-2
+    (λ c. search needs)
     returns-2
-    same-length-3
+    (λ c. search needs)
     returns-3)

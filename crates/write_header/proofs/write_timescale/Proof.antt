@@ -4,20 +4,11 @@ use borrow.Author.Needs.{needs}
 use Rattle.write_header.proofs.write_timescale.Statement.{statement}
 use Rattle.write_header.proofs.write_timescale.Tie as tie
 
-enum-told : tie.Need-enum-told
-enum-told c = search needs
-
-enum-known-timescale : tie.Need-enum-known-timescale
-enum-known-timescale c = search needs
-
 write-one-requires : tie.Need-write-one-requires
 write-one-requires c κs = c .before .before .before .before .before .before .pre
 
 returns : tie.Need-returns
 returns c = rw (c .enum-told .given .1) (refl, c .before .before .before .before .pre .0, λ more. refl)
-
-same-length : tie.Need-same-length
-same-length c = search needs
 
 returns-2 : tie.Need-returns-2
 returns-2 c = rw (c .before .before .before .before .before .timescale .given .1) (c .before .before .write-one .ensures)
@@ -25,4 +16,4 @@ returns-2 c = rw (c .before .before .before .before .before .timescale .given .1
 pub write-timescale-spec : {M : Type 1} → statement M
 write-timescale-spec =
     tie.close
-    (tie.spec enum-told enum-known-timescale write-one-requires returns same-length returns-2)
+    (tie.spec (λ c. search needs) (λ c. search needs) write-one-requires returns (λ c. search needs) returns-2)

@@ -16,20 +16,8 @@ Inv-loop src rows n from out₀ at me v₀ i₀ place₀ out v i place =
 abbrev μ-loop : tie.MeasureT-loop
 μ-loop src rows n from out₀ at me v₀ i₀ place₀ out v i place = n - i
 
-parent-at-requires : tie.Need-parent-at-requires Inv-loop μ-loop
-parent-at-requires c κs = search needs
-
 loop-holds : tie.Need-loop-holds Inv-loop μ-loop
 loop-holds c = let p = c .before .before .before .before .pre in (omega arith, omega (arith, p .0), p .2, refl, λ levels st h k g. (g, refl))
-
-is-var-of-requires : tie.Need-is-var-of-requires Inv-loop μ-loop
-is-var-of-requires c κs = search needs
-
-var-at-requires : tie.Need-var-at-requires Inv-loop μ-loop
-var-at-requires c κs = search needs
-
-add-write-var : tie.Need-add-write-var Inv-loop μ-loop
-add-write-var c = search needs
 
 write-var-requires : tie.Need-write-var-requires Inv-loop μ-loop
 write-var-requires c κs =
@@ -38,9 +26,6 @@ write-var-requires c κs =
       c .before .before .before .before .before .loop .inv .2,
       var-placed _ _ _ _ (p .3) (c .before .before .before .before .loop-test .taken) (c .before .var-at .ensures) (x .0),
     )
-
-enum-known-next : tie.Need-enum-known-next Inv-loop μ-loop
-enum-known-next c = search needs
 
 loop-less : tie.Need-loop-less Inv-loop μ-loop
 loop-less c =
@@ -62,12 +47,6 @@ loop-again c =
           (b .before .before .before .before .parent-at .ensures) (sym (b .before .is-var-of .ensures) ∙ b .if1 .taken) (l .inv .4) _ _ _ _ x,
     )
 
-enum-known-e : tie.Need-enum-known-e Inv-loop μ-loop
-enum-known-e c = search needs
-
-same-length : tie.Need-same-length Inv-loop μ-loop
-same-length c = search needs
-
 returns : tie.Need-returns Inv-loop μ-loop
 returns c =
     let b = c .before .before .before .before .before .before .before .before in
@@ -78,18 +57,12 @@ returns c =
     (b .before .before .before .before .parent-at .ensures) (sym (b .before .is-var-of .ensures) ∙ b .if1 .taken) (l .inv .4) _ _ _ _
     (rw (c .before .e .given .1) at (c .before .before .before .before .before .write-var .ensures))
 
-same-length-2 : tie.Need-same-length-2 Inv-loop μ-loop
-same-length-2 c = search needs
-
 returns-2 : tie.Need-returns-2 Inv-loop μ-loop
 returns-2 c =
     let l = c .before .before .before .loop in
     let b = c .before .before .before .before in
     let h = moved _ _ _ (b .parent-at .ensures) (b .before .before .before .before .pre .4) (l .inv .0) (sym (c .before .is-var-of .ensures) ∙ c .if1 .left) in
     λ levels. (h, l .inv .1, l .inv .2, l .inv .4 levels)
-
-same-length-3 : tie.Need-same-length-3 Inv-loop μ-loop
-same-length-3 c = search needs
 
 returns-3 : tie.Need-returns-3 Inv-loop μ-loop
 returns-3 c =
@@ -102,19 +75,16 @@ write-vars-spec =
     (tie.spec
     Inv-loop
     μ-loop
-    parent-at-requires
+    (λ c κs. search needs)
     loop-holds
-    is-var-of-requires
-    var-at-requires
-    add-write-var
+    (λ c κs. search needs) (λ c κs. search needs) (λ c. search needs)
     write-var-requires
-    enum-known-next
+    (λ c. search needs)
     loop-less
     loop-again
-    enum-known-e
-    same-length
+    (λ c. search needs) (λ c. search needs)
     returns
-    same-length-2
+    (λ c. search needs)
     returns-2
-    same-length-3
+    (λ c. search needs)
     returns-3)

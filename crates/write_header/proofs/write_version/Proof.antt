@@ -5,20 +5,11 @@ use borrow.Author.Needs.{needs}
 use Rattle.write_header.proofs.write_version.Statement.{statement}
 use Rattle.write_header.proofs.write_version.Tie as tie
 
-enum-told : tie.Need-enum-told
-enum-told c = search needs
-
-enum-known-version : tie.Need-enum-known-version
-enum-known-version c = search needs
-
 write-one-requires : tie.Need-write-one-requires
 write-one-requires c κs = (c .before .before .before .before .before .before .pre .0, placed _ _ (c .before .before .before .before .before .before .pre .1) (rw (c .before .before .version .given .1) at (c .before .before .before .before .before .before .pre .2)))
 
 returns : tie.Need-returns
 returns c = rw (c .enum-told .given .1) (refl, c .before .before .before .before .pre .0, λ more. refl)
-
-same-length : tie.Need-same-length
-same-length c = search needs
 
 returns-2 : tie.Need-returns-2
 returns-2 c = rw (c .before .before .before .before .before .version .given .1) (c .before .before .write-one .ensures)
@@ -26,4 +17,4 @@ returns-2 c = rw (c .before .before .before .before .before .version .given .1) 
 pub write-version-spec : {M : Type 1} → statement M
 write-version-spec =
     tie.close
-    (tie.spec enum-told enum-known-version write-one-requires returns same-length returns-2)
+    (tie.spec (λ c. search needs) (λ c. search needs) write-one-requires returns (λ c. search needs) returns-2)

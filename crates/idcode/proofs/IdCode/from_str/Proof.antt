@@ -21,19 +21,10 @@ returns c = read-none _ (c .if1 .taken)
 loop-holds : tie.Need-loop-holds Inv-loop μ-loop
 loop-holds c = read-start _ (c .if1 .left)
 
-sub-b : tie.Need-sub-b Inv-loop μ-loop
-sub-b c = search needs
-
-shared-slice-read-b : tie.Need-shared-slice-read-b Inv-loop μ-loop
-shared-slice-read-b c = search needs
-
 returns-2 : tie.Need-returns-2 Inv-loop μ-loop
 returns-2 c =
     read-bad _ _ _ (c .before .before .before .loop .inv) (c .before .before .loop-test .taken)
     (⊎-elim (λ w. low-byte _ (w .taken)) (λ w. high-byte _ (ltb-true _ _ (w .1 .taken))) (c .if2 .came))
-
-sub-c : tie.Need-sub-c Inv-loop μ-loop
-sub-c c = search needs
 
 cast-c : tie.Need-cast-c Inv-loop μ-loop
 cast-c c = omega (arith, ltb-false)
@@ -51,12 +42,6 @@ mul-sum c = omega (arith, ltb-false)
 
 add-sum : tie.Need-add-sum Inv-loop μ-loop
 add-sum c = omega (arith, ltb-false)
-
-sub-i : tie.Need-sub-i Inv-loop μ-loop
-sub-i c = search needs
-
-loop-less : tie.Need-loop-less Inv-loop μ-loop
-loop-less c = search needs
 
 loop-again : tie.Need-loop-again Inv-loop μ-loop
 loop-again c =
@@ -77,17 +62,15 @@ from-str-spec =
     μ-loop
     returns
     loop-holds
-    sub-b
-    shared-slice-read-b
+    (λ c. search needs) (λ c. search needs)
     returns-2
-    sub-c
+    (λ c. search needs)
     cast-c
     sub-if4
     returns-3
     mul-sum
     add-sum
-    sub-i
-    loop-less
+    (λ c. search needs) (λ c. search needs)
     loop-again
     sub-t19
     returns-4)

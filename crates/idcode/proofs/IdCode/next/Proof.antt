@@ -9,12 +9,9 @@ returns : tie.Need-returns
 unfolding following
 returns c = rw (eq-eqb _ _ (c .if1 .taken))
 
-add-t4 : tie.Need-add-t4
-add-t4 c = search needs
-
 returns-2 : tie.Need-returns-2
 unfolding following
 returns-2 c = rw (ne-eqb _ _ (c .if1 .left))
 
 pub next-spec : {M : Type 1} → statement M
-next-spec = tie.close (tie.spec returns add-t4 returns-2)
+next-spec = tie.close (tie.spec returns (λ c. search needs) returns-2)

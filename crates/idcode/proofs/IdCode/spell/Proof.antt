@@ -16,23 +16,11 @@ abbrev μ-loop : tie.MeasureT-loop
 loop-holds : tie.Need-loop-holds Inv-loop μ-loop
 loop-holds c = (spell-start (c .args .self .0) (omega arith), row-start _)
 
-cast-bytes : tie.Need-cast-bytes Inv-loop μ-loop
-cast-bytes c = search needs
-
-add-bytes : tie.Need-add-bytes Inv-loop μ-loop
-add-bytes c = search needs
-
 array-write-bytes : tie.Need-array-write-bytes Inv-loop μ-loop
 array-write-bytes c = omega (arith, inside _ _ _ (c .loop .inv .0))
 
 add-n : tie.Need-add-n Inv-loop μ-loop
 add-n c = omega (arith, inside _ _ _ (c .loop .inv .0))
-
-sub-rest : tie.Need-sub-rest Inv-loop μ-loop
-sub-rest c = search needs
-
-loop-less : tie.Need-loop-less Inv-loop μ-loop
-loop-less c = search needs
 
 loop-again : tie.Need-loop-again Inv-loop μ-loop
 loop-again c = let i = c .before .loop .inv in (spell-more _ _ _ (i .0) (c .loop-test .left), row-next _ _ _ (i .0) (i .1))
@@ -47,11 +35,9 @@ spell-spec =
     Inv-loop
     μ-loop
     loop-holds
-    cast-bytes
-    add-bytes
+    (λ c. search needs) (λ c. search needs)
     array-write-bytes
     add-n
-    sub-rest
-    loop-less
+    (λ c. search needs) (λ c. search needs)
     loop-again
     returns)

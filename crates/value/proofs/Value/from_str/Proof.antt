@@ -9,14 +9,8 @@ use Rattle.value.proofs.Value.from_str.Tie as tie
 returns : tie.Need-returns
 returns c = text-other (now (c .before .before .args .s)) (c .if1 .taken)
 
-shared-slice-read-parse : tie.Need-shared-slice-read-parse
-shared-slice-read-parse c = search needs
-
-parse-requires : tie.Need-parse-requires
-parse-requires c κs = search needs
-
 returns-2 : tie.Need-returns-2
 returns-2 c = c .parse .ensures ∙ text-one (now (c .before .before .before .before .args .s)) (c .before .before .if1 .left)
 
 pub from-str-spec : {M : Type 1} → statement M
-from-str-spec = tie.close (tie.spec returns shared-slice-read-parse parse-requires returns-2)
+from-str-spec = tie.close (tie.spec returns (λ c. search needs) (λ c κs. search needs) returns-2)

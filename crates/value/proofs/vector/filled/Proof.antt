@@ -17,20 +17,11 @@ abbrev μ-loop : tie.MeasureT-loop
 returns : tie.Need-returns Inv-loop μ-loop
 returns c = no-room _ _ (rw length-replicate (c .if1 .taken))
 
-byte-requires : tie.Need-byte-requires Inv-loop μ-loop
-byte-requires c κs = search needs
-
 loop-holds : tie.Need-loop-holds Inv-loop μ-loop
 loop-holds c = fill-start _ _ _ (c .before .if1 .left)
 
 slice-write-out : tie.Need-slice-write-out Inv-loop μ-loop
 slice-write-out c = omega (arith, copy-length _ _ _ _ (c .before .loop .inv), c .before .before .before .if1 .left)
-
-add-i : tie.Need-add-i Inv-loop μ-loop
-add-i c = search needs
-
-loop-less : tie.Need-loop-less Inv-loop μ-loop
-loop-less c = search needs
 
 loop-again : tie.Need-loop-again Inv-loop μ-loop
 loop-again c = fill-more _ _ _ _ _ (c .before .loop .inv) (c .loop-test .taken)
@@ -48,11 +39,10 @@ filled-spec =
     Inv-loop
     μ-loop
     returns
-    byte-requires
+    (λ c κs. search needs)
     loop-holds
     slice-write-out
-    add-i
-    loop-less
+    (λ c. search needs) (λ c. search needs)
     loop-again
     same-length
     returns-2)

@@ -18,22 +18,10 @@ abbrev μ-loop : tie.MeasureT-loop
 loop-holds : tie.Need-loop-holds Inv-loop μ-loop
 loop-holds c = (search needs, refl)
 
-shared-slice-read-is-value : tie.Need-shared-slice-read-is-value Inv-loop μ-loop
-shared-slice-read-is-value c = search needs
-
-is-value-requires : tie.Need-is-value-requires Inv-loop μ-loop
-is-value-requires c κs = search needs
-
 returns : tie.Need-returns Inv-loop μ-loop
 returns c =
     let no = sym (c .before .is-value .ensures) ∙ not-true _ (c .if1 .taken) in
     sym (c .before .before .before .before .loop .inv .1 ∙ values-stop _ _ (c .before .before .before .loop-test .taken) no)
-
-add-i : tie.Need-add-i Inv-loop μ-loop
-add-i c = search needs
-
-loop-less : tie.Need-loop-less Inv-loop μ-loop
-loop-less c = search needs
 
 loop-again : tie.Need-loop-again Inv-loop μ-loop
 loop-again c =
@@ -50,10 +38,8 @@ is-vector-spec =
     Inv-loop
     μ-loop
     loop-holds
-    shared-slice-read-is-value
-    is-value-requires
+    (λ c. search needs) (λ c κs. search needs)
     returns
-    add-i
-    loop-less
+    (λ c. search needs) (λ c. search needs)
     loop-again
     returns-2)

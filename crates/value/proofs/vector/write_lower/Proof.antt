@@ -15,9 +15,6 @@ Inv-loop s out₀ i₀ out i = Lowered s out₀ out i
 abbrev μ-loop : tie.MeasureT-loop
 μ-loop s out₀ i₀ out i = length s - i
 
-is-vector-requires : tie.Need-is-vector-requires Inv-loop μ-loop
-is-vector-requires c κs = search needs
-
 returns : tie.Need-returns Inv-loop μ-loop
 returns c = lower-invalid _ _ (sym (c .before .is-vector .ensures) ∙ not-true _ (c .if1 .taken))
 
@@ -27,20 +24,8 @@ returns-2 c = lower-no-room _ _ (sym (c .before .before .is-vector .ensures) ∙
 loop-holds : tie.Need-loop-holds Inv-loop μ-loop
 loop-holds c = lower-start _ _ (sym (c .before .before .is-vector .ensures) ∙ not-false _ (c .before .if1 .left)) (c .if2 .left)
 
-shared-slice-read-lowered : tie.Need-shared-slice-read-lowered Inv-loop μ-loop
-shared-slice-read-lowered c = search needs
-
-lowered-requires : tie.Need-lowered-requires Inv-loop μ-loop
-lowered-requires c κs = search needs
-
 slice-write-out : tie.Need-slice-write-out Inv-loop μ-loop
 slice-write-out c = omega (arith, lower-length _ _ _ _ (c .before .before .before .loop .inv), c .before .before .before .before .if2 .left)
-
-add-i : tie.Need-add-i Inv-loop μ-loop
-add-i c = search needs
-
-loop-less : tie.Need-loop-less Inv-loop μ-loop
-loop-less c = search needs
 
 loop-again : tie.Need-loop-again Inv-loop μ-loop
 loop-again c = rw (c .lowered .ensures) (lower-more _ _ _ _ (c .before .before .before .loop .inv) (c .before .before .loop-test .taken))
@@ -57,15 +42,13 @@ write-lower-spec =
     (tie.spec
     Inv-loop
     μ-loop
-    is-vector-requires
+    (λ c κs. search needs)
     returns
     returns-2
     loop-holds
-    shared-slice-read-lowered
-    lowered-requires
+    (λ c. search needs) (λ c κs. search needs)
     slice-write-out
-    add-i
-    loop-less
+    (λ c. search needs) (λ c. search needs)
     loop-again
     same-length
     returns-3)

@@ -3,11 +3,12 @@ use mathlib.Core.Path.{refl, sym, _∙_}
 use mathlib.Core.Bool.{and-false}
 use borrow.Author.Needs.{needs}
 use Rattle.idcode.specs.Id.{idText}
-use Rattle.write.specs.Layout.{layout, stateAfter, isShortReal, isId}
+use Rattle.write.proofs.Ids.{id-none, id-some}
+use Rattle.write.specs.Layout.{layout, stateAfter, isId}
 use Rattle.write.specs.Call.{call}
-use Rattle.write.proofs.Checks.{id-none, id-some}
+use Rattle.write_check.specs.Check.{isShortReal}
 use Rattle.write.proofs.Outcomes.{bad-place, not-writable, laid-out, judged-no, judged-yes}
-use Rattle.lay.proofs.Storing.{row-text}
+use Rattle.emit.proofs.Storing.{row-text}
 use Rattle.write.proofs.Writer.change_real.Statement.{statement}
 use Rattle.write.proofs.Writer.change_real.Tie as tie
 
@@ -32,7 +33,7 @@ returns-4 c =
     let code = row-text (idText (x .id .0)) (c .before .before .before .before .before .before .before .before .before .before .before .spell .ensures) (c .before .before .before .before .before .before .front .ensures) in
     let ok = judged-yes isShortReal (c .before .before .before .before .before .before .before .before .before .before .before .before .before .before .part .ensures) (c .before .before .before .before .before .before .before .before .before .before .before .before .before .is-real .ensures) (c .before .before .before .before .before .before .before .before .before .before .before .before .if3 .left) in
     laid-out _ _ _ _ _ (sym (c .before .before .before .before .before .before .before .before .before .before .before .before .before .before .before .before .before .before .outside .ensures) ∙ c .before .before .before .before .before .before .before .before .before .before .before .before .before .before .before .before .before .if1 .left) (rw (id-some (x .id) (c .before .before .before .before .before .before .before .before .before .before .before .before .before .before .before .if2 .left), ok))
-    (c .laid .ensures) (c .before .before .before .lay .ensures) refl (rw (code, c .before .before .before .before .before .before .before .before .before .before .before .before .before .before .part .ensures))
+    (c .laid .ensures) (c .before .before .before .emit .ensures) refl (rw (code, c .before .before .before .before .before .before .before .before .before .before .before .before .before .before .part .ensures))
 
 pub change-real-spec : {M : Type 1} → statement M
 change-real-spec =

@@ -1,9 +1,10 @@
 -- `write::Writer::change_scalar` meets its contract. Assumes nothing.
 use mathlib.Core.Path.{refl}
 use borrow.Author.Needs.{needs}
+use Rattle.write.proofs.Ids.{id-none, id-some}
 use Rattle.write.specs.Layout.{layout, stateAfter}
 use Rattle.write.specs.Call.{call}
-use Rattle.write.proofs.Checks.{none-long, id-none, id-some}
+use Rattle.text.proofs.Limit.{none-long}
 use Rattle.write.proofs.Outcomes.{not-writable, laid-out}
 use Rattle.write.proofs.Spelling.{value-name}
 use Rattle.write.proofs.Writer.change_scalar.Statement.{statement}
@@ -17,7 +18,7 @@ returns-2 : tie.Need-returns-2
 unfolding call stateAfter layout
 returns-2 c =
     let x = c .before .before .before .before .before .before .before .before .before .args in
-    laid-out _ _ _ _ _ none-long (rw (id-some (x .id) (c .before .before .before .before .before .before .if1 .left))) (c .laid .ensures) (c .before .before .before .lay-scalar .ensures) refl
+    laid-out _ _ _ _ _ none-long (rw (id-some (x .id) (c .before .before .before .before .before .before .if1 .left))) (c .laid .ensures) (c .before .before .before .emit-scalar .ensures) refl
     (rw (c .before .before .before .before .before .byte .ensures, ← value-name (x .v)))
 
 pub change-scalar-spec : {M : Type 1} → statement M

@@ -4,9 +4,10 @@ use mathlib.Core.Bool.{and-false}
 use mathlib.Core.List.{map}
 use borrow.Author.Needs.{needs}
 use Rattle.value.specs.Values.{lower}
-use Rattle.write.specs.Layout.{layout, stateAfter, isVector, isId}
+use Rattle.write.proofs.Ids.{id-none, id-some}
+use Rattle.write.specs.Layout.{layout, stateAfter, isId}
 use Rattle.write.specs.Call.{call}
-use Rattle.write.proofs.Checks.{id-none, id-some}
+use Rattle.write_check.specs.Check.{isVector}
 use Rattle.write.proofs.Outcomes.{bad-place, not-writable, laid-out, judged-no, judged-yes}
 use Rattle.write.proofs.Writer.change_vector.Statement.{statement}
 use Rattle.write.proofs.Writer.change_vector.Tie as tie
@@ -31,7 +32,7 @@ returns-4 c =
     let x = c .before .before .before .before .before .before .before .before .before .before .before .before .before .before .args in
     let ok = judged-yes (λ v. isVector (map lower v)) (c .before .before .before .before .before .before .before .part .ensures) (c .before .before .before .before .before .before .is-vector .ensures) (c .before .before .before .before .before .if3 .left) in
     laid-out _ _ _ _ _ (sym (c .before .before .before .before .before .before .before .before .before .before .before .outside .ensures) ∙ c .before .before .before .before .before .before .before .before .before .before .if1 .left) (rw (id-some (x .id) (c .before .before .before .before .before .before .before .before .if2 .left), ok))
-    (c .laid .ensures) (c .before .before .before .lay-vector .ensures) refl (rw (c .before .before .before .before .before .before .before .part .ensures))
+    (c .laid .ensures) (c .before .before .before .emit-vector .ensures) refl (rw (c .before .before .before .before .before .before .before .part .ensures))
 
 pub change-vector-spec : {M : Type 1} → statement M
 change-vector-spec =
@@ -42,6 +43,5 @@ change-vector-spec =
     returns-2
     (λ c κs. search needs) (λ c κs. search needs)
     returns-3
-    (λ c κs. search needs) (λ c κs. search needs)
-    (λ c. search needs)
+    (λ c κs. search needs) (λ c κs. search needs) (λ c. search needs)
     returns-4)

@@ -4,7 +4,7 @@ use borrow.Author.Needs.{needs}
 use borrow.Author.Tests.{not-true, not-false}
 use Rattle.write.specs.Layout.{layout, stateAfter}
 use Rattle.write.specs.Call.{call}
-use Rattle.write.proofs.Checks.{none-long}
+use Rattle.text.proofs.Limit.{none-long}
 use Rattle.write.proofs.Outcomes.{not-writable, laid-out}
 use Rattle.write.proofs.Writer.end.Statement.{statement}
 use Rattle.write.proofs.Writer.end.Tie as tie
@@ -16,8 +16,8 @@ returns c = not-writable _ _ _ _ _ none-long (sym (c .before .names-open .ensure
 returns-2 : tie.Need-returns-2
 unfolding call stateAfter layout
 returns-2 c =
-    laid-out _ _ _ _ _ none-long (sym (c .before .before .before .before .before .before .before .before .names-open .ensures) ∙ not-false _ (c .before .before .before .before .before .before .before .if1 .left))
-    (c .laid .ensures) (c .before .before .before .put-text .ensures) (c .before .before .before .before .before .before .with-open .ensures) refl
+    laid-out _ _ _ _ _ none-long (sym (c .before .before .before .before .before .before .before .before .before .before .before .before .names-open .ensures) ∙ not-false _ (c .before .before .before .before .before .before .before .before .before .before .before .if1 .left))
+    (c .laid .ensures) (c .before .before .before .emit .ensures) (c .before .before .before .before .before .before .before .before .before .before .with-open .ensures) refl
 
 pub end-spec : {M : Type 1} → statement M
 end-spec =
@@ -25,5 +25,6 @@ end-spec =
     (tie.spec
     (λ c κs. search needs)
     returns
-    (λ c κs. search needs) (λ c. search needs) (λ c κs. search needs) (λ c κs. search needs) (λ c. search needs)
+    (λ c κs. search needs) (λ c. search needs) (λ c. search needs) (λ c. search needs) (λ c. search needs)
+    (λ c. search needs) (λ c κs. search needs) (λ c κs. search needs) (λ c. search needs)
     returns-2)

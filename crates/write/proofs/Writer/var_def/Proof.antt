@@ -8,9 +8,10 @@ use borrow.Author.Needs.{needs}
 use borrow.Author.Tests.{eq-eqb, ne-eqb}
 use Rattle.command.specs.Meaning.{varDef}
 use Rattle.text.specs.Texts.{part}
-use Rattle.write.specs.Layout.{layout, stateAfter, isName, isId}
+use Rattle.write.proofs.Ids.{id-none, id-some}
+use Rattle.write.specs.Layout.{layout, stateAfter, isId}
 use Rattle.write.specs.Call.{call}
-use Rattle.write.proofs.Checks.{id-none, id-some}
+use Rattle.write_check.specs.Check.{isName}
 use Rattle.write.proofs.Outcomes.{bad-place, not-writable, laid-out, judged-no, judged-yes}
 use Rattle.write.proofs.Writer.var_def.Statement.{statement}
 use Rattle.write.proofs.Writer.var_def.Tie as tie
@@ -39,7 +40,7 @@ returns-5 c =
     let x = c .before .before .before .before .before .before .before .before .before .before .before .before .before .before .before .before .before .before .args in
     laid-out _ _ _ _ _ (sym (c .before .before .before .before .before .before .before .before .before .before .before .before .before .before .before .outside .ensures) ∙ c .before .before .before .before .before .before .before .before .before .before .before .before .before .before .if1 .left)
     (rw (id-some (x .id) (c .before .before .before .before .before .before .before .before .before .before .before .before .before .if2 .left), judged-yes isName (c .before .before .before .before .before .before .before .before .before .before .before .before .part .ensures) (c .before .before .before .before .before .before .before .before .before .before .before .is-name .ensures) (c .before .before .before .before .before .before .before .before .before .before .if3 .left), ne-eqb _ _ (c .before .before .before .before .before .before .before .before .if4 .left)))
-    (c .laid .ensures) (c .before .before .before .lay-var .ensures) (c .before .before .before .before .before .with-id .ensures ∙ rw (c .before .before .before .before .before .before .raised .ensures))
+    (c .laid .ensures) (c .before .before .before .emit-var .ensures) (c .before .before .before .before .before .with-id .ensures ∙ rw (c .before .before .before .before .before .before .raised .ensures))
     (ap (λ (t : List ℕ). layout (varDef (x .var-type) (x .width) (x .id) t (x .index))) (c .before .before .before .before .before .before .before .before .before .before .before .before .part .ensures))
 
 pub var-def-spec : {M : Type 1} → statement M

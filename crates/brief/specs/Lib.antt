@@ -1,2 +1,0 @@
-pub mod Brief
-pub mod Var

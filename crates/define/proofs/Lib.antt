@@ -1,3 +1,0 @@
--- `Spelling` has short texts by value, `Putting` texts put one behind the other.
-pub mod Spelling
-pub mod Putting

@@ -1,0 +1,4 @@
+pub mod ByKind
+pub mod Uses
+pub mod Words
+pub mod Kept

@@ -1,0 +1,3 @@
+-- `Rows` has the rows of a table from one on and their parents, `Chains` the open scopes as a chain of parents in the table.
+pub mod Rows
+pub mod Chains

@@ -1,4 +1,0 @@
-pub mod Back
-mod Words
-mod Taken
-mod Reading
