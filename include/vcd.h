@@ -1,11 +1,11 @@
 /* The proved reader and writer of value change dumps, for C and C++: its calls, and names for their numbers. Layouts of the arrays and
    the caller's duties: docs/ABI.md.
 
-   Every array is lent as pointer and length in elements. Each call but the look-ups answers VCD_OK, VCD_DONE or a refusal's number. A
-   fixed array of another length than its macro says, or one whose words are no state, head or record, is refused by VCD_BAD_PLACE with
-   nothing changed; each comment speaks of the other cases. "A cursor outside" is one that cannot stand in this input, or an input over
-   4,294,967,295 bytes. "Reading refusals" are 1 to 15, 17 and 18 without 8; their line is then the cursor's second word, and reading
-   may go on from the cursor. */
+   Every array is lent as pointer and length in elements. Each call answers VCD_OK, VCD_DONE or a refusal's number. A fixed array of
+   another length than its macro says, or one whose words are no state, head or record, is refused by VCD_BAD_PLACE with nothing changed;
+   each comment speaks of the other cases. "A cursor outside" is one that cannot stand in this input, or an input over 4,294,967,295
+   bytes. "Reading refusals" are 1 to 15, 17 and 18 without 8; their line is then the cursor's second word, and reading may go on from
+   the cursor. */
 #ifndef VCD_H
 #define VCD_H
 
@@ -19,14 +19,16 @@ extern "C" {
 /* Words of the arrays. Tables of records, rows and changes take as many as fit; words over are not used. */
 #define VCD_CURSOR 4
 #define VCD_WRITER 3
+#define VCD_SINCE 2
 #define VCD_HEAD 10
 #define VCD_RECORD 9
 #define VCD_ROW 10
 #define VCD_CHANGE 6
 
-/* A cursor at the start of an input, and a fresh writer: uint64_t cursor[VCD_CURSOR] = VCD_CURSOR_START; */
+/* A cursor at the start of an input, a fresh writer, and no time: uint64_t cursor[VCD_CURSOR] = VCD_CURSOR_START; */
 #define VCD_CURSOR_START {0, 1, 0, 0}
 #define VCD_WRITER_START {0, 0, 0}
+#define VCD_SINCE_START {0, 0}
 
 /* No row, no parent, no id. */
 #define VCD_NONE (~(uint64_t)0)
@@ -38,7 +40,7 @@ extern "C" {
 /* The longest text of an id. */
 #define VCD_ID_TEXT 10
 
-/* The words of a cursor, a writer, a record, a head, a header's row and a change. */
+/* The words of a cursor, a writer, a time, a record, a head, a header's row and a change. */
 #define VCD_CURSOR_PLACE 0
 #define VCD_CURSOR_LINE 1
 #define VCD_CURSOR_PENDING 2
@@ -47,6 +49,9 @@ extern "C" {
 #define VCD_WRITER_DEPTH 0
 #define VCD_WRITER_NEXT 1
 #define VCD_WRITER_OPEN 2
+
+#define VCD_SINCE_TIMED 0
+#define VCD_SINCE_TIME 1
 
 #define VCD_RECORD_KIND 0
 #define VCD_RECORD_TYPE 1
@@ -202,12 +207,13 @@ uint64_t vcd_header(const uint8_t *input, size_t input_len, uint64_t *cursor, si
 /* Copies row i of a header's table into `row`. VCD_BAD_PLACE: there is no row i, or its words are no row; `row` is unchanged. */
 uint64_t vcd_row(const uint64_t *rows, size_t rows_len, size_t i, uint64_t *row, size_t row_len);
 
-/* The first row of the scope, or variable, at a path of names parted by one space, among the first `count` rows; VCD_NONE where there
-   is none. Never refused. */
+/* The first row of the scope, or variable, at a path of names parted by one space, among the first `count` rows. VCD_OK: `row` is its
+   number, VCD_NONE where there is none. VCD_BAD_PLACE, where one of these rows has a text outside the input, or the input is over
+   4,294,967,295 bytes: `row` is unchanged. */
 uint64_t vcd_find_scope(const uint8_t *input, size_t input_len, const uint64_t *rows, size_t rows_len, size_t count, const uint8_t *path,
-                        size_t path_len);
+                        size_t path_len, uint64_t *row);
 uint64_t vcd_find_var(const uint8_t *input, size_t input_len, const uint64_t *rows, size_t rows_len, size_t count, const uint8_t *path,
-                      size_t path_len);
+                      size_t path_len, uint64_t *row);
 
 /* Writes the command of one record, whose text stands in `src`, at the start of the output. VCD_OK: `count` bytes are written, the
    others unchanged, and the writer is the state after it. VCD_BAD_PLACE (also of a text outside `src`), then VCD_NOT_WRITABLE, then
@@ -230,10 +236,17 @@ uint64_t vcd_rewrite(const uint8_t *input, size_t input_len, uint64_t *cursor, s
                      uint8_t *out, size_t out_len, uint64_t *count, uint64_t *line);
 
 /* Lists the changes of one id code from the cursor on. VCD_OK: up to the end of the input. VCD_LIST_FULL: the cursor stands before the
-   change that found no row. Reading refusals: behind it. In all these the rows counted are written, the words behind them unchanged.
-   VCD_BAD_PLACE of a cursor outside: the count is 0. */
+   change that found no row; vcd_list_on goes on from there with the time. Reading refusals: behind it. In all these the rows counted are
+   written, the words behind them unchanged. VCD_BAD_PLACE of a cursor outside: the count is 0. */
 uint64_t vcd_list(const uint8_t *input, size_t input_len, uint64_t *cursor, size_t cursor_len, uint64_t code, uint64_t *rows,
                   size_t rows_len, uint64_t *count);
+
+/* The same from where a listing stopped. `since` is the last time before the cursor: VCD_SINCE_START where there was none, and after
+   VCD_LIST_FULL what the call before left there. It is then the last time that was read, or as it was where none was read: with
+   VCD_LIST_FULL the last one before the change that found no row, else the last one at all. Pages so listed, joined, are the one
+   listing with room for all. VCD_BAD_PLACE of a cursor outside: the count is 0, `since` unchanged. */
+uint64_t vcd_list_on(const uint8_t *input, size_t input_len, uint64_t *cursor, size_t cursor_len, uint64_t *since, size_t since_len,
+                     uint64_t code, uint64_t *rows, size_t rows_len, uint64_t *count);
 
 /* Copies row i of a listing into `change`. VCD_BAD_PLACE: there is no row i, or its words are no row; `change` is unchanged. */
 uint64_t vcd_change(const uint64_t *rows, size_t rows_len, size_t i, uint64_t *change, size_t change_len);

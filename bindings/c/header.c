@@ -79,8 +79,9 @@ void answer_header(bytes given) {
     free(rows);
 }
 
-static void put_found(const char *name, bytes input, const uint64_t *rows, size_t lent, uint64_t found) {
+static void put_found(const char *name, bytes input, const uint64_t *rows, size_t lent, uint64_t status, uint64_t found) {
     uint64_t row[VCD_ROW];
+    check(status == VCD_OK);
     fputs(name, stdout);
     if (found == VCD_NONE) {
         puts(" -");
@@ -110,7 +111,9 @@ void answer_find(bytes input) {
     take_line(&rest);
     while (rest.len > 0) {
         bytes path = take_line(&rest);
-        put_found("scope", input, rows, lent, vcd_find_scope(input.at, input.len, rows, lent, count, path.at, path.len));
-        put_found("var", input, rows, lent, vcd_find_var(input.at, input.len, rows, lent, count, path.at, path.len));
+        uint64_t found = 0, status = vcd_find_scope(input.at, input.len, rows, lent, count, path.at, path.len, &found);
+        put_found("scope", input, rows, lent, status, found);
+        status = vcd_find_var(input.at, input.len, rows, lent, count, path.at, path.len, &found);
+        put_found("var", input, rows, lent, status, found);
     }
 }

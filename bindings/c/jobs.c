@@ -57,33 +57,54 @@ static void put_change(bytes dump, bytes reference, uint64_t width, const uint64
     putchar('\n');
 }
 
-/* The changes listed again, a few at a time and each time from the cursor that 24 left: the same rows, but that times are told only
-   since the last start. */
-static void check_pieces(bytes dump, const uint64_t *start, uint64_t id, const uint64_t *changes, uint64_t count) {
-    uint64_t cursor[VCD_CURSOR], piece[3 * VCD_CHANGE], done = 0, some = 0, status;
+/* A listing with the time beside it: how it ended, and what it left. */
+typedef struct {
+    uint64_t status, count, cursor[VCD_CURSOR], since[VCD_SINCE], changes[CHANGES * VCD_CHANGE];
+} listing;
+
+static void list_whole(bytes dump, const uint64_t *start, uint64_t id, listing *l) {
+    static const uint64_t none[VCD_SINCE] = VCD_SINCE_START;
+    memcpy(l->cursor, start, sizeof(l->cursor));
+    memcpy(l->since, none, sizeof(none));
+    mark_words(l->changes, CHANGES * VCD_CHANGE);
+    l->status = vcd_list_on(dump.at, dump.len, l->cursor, VCD_CURSOR, l->since, VCD_SINCE, id, l->changes, CHANGES * VCD_CHANGE, &l->count);
+}
+
+/* The same by pages of so many rows, each from the cursor and the time that 24 left: joined, they are the one listing, as far as that had
+   room. */
+static void check_pages(bytes dump, const uint64_t *start, uint64_t id, size_t lent, const listing *whole) {
+    uint64_t cursor[VCD_CURSOR], since[VCD_SINCE] = VCD_SINCE_START, page[8 * VCD_CHANGE], done = 0, some = 0, status;
     memcpy(cursor, start, sizeof(cursor));
     do {
-        status = vcd_list(dump.at, dump.len, cursor, VCD_CURSOR, id, piece, 3 * VCD_CHANGE, &some);
-        check(status == VCD_LIST_FULL ? some == 3 : some <= 3);
-        for (uint64_t i = 0; i < some && done < count; i++, done++) {
-            const uint64_t *got = piece + i * VCD_CHANGE, *whole = changes + done * VCD_CHANGE;
-            size_t from = got[VCD_CHANGE_TIMED] ? VCD_CHANGE_TIMED : VCD_CHANGE_LINE;
-            check(memcmp(got + from, whole + from, (VCD_CHANGE - from) * sizeof(got[0])) == 0);
-        }
-    } while (status == VCD_LIST_FULL && done < count);
-    check(done == count);
+        mark_words(page, 8 * VCD_CHANGE);
+        status = vcd_list_on(dump.at, dump.len, cursor, VCD_CURSOR, since, VCD_SINCE, id, page, lent * VCD_CHANGE, &some);
+        check(status == VCD_LIST_FULL ? some == lent : some <= lent);
+        check_words(page, some * VCD_CHANGE, 8 * VCD_CHANGE);
+        check(done + some <= whole->count);
+        check(memcmp(page, whole->changes + done * VCD_CHANGE, some * VCD_CHANGE * sizeof(page[0])) == 0);
+        done += some;
+    } while (status == VCD_LIST_FULL && done < whole->count);
+    check(done == whole->count && status == whole->status);
+    check(memcmp(cursor, whole->cursor, sizeof(cursor)) == 0 && memcmp(since, whole->since, sizeof(since)) == 0);
 }
 
 /* The lines of one variable from the cursor on; answers the refusal of reading that it met, or VCD_OK. */
 static uint64_t list_var(bytes dump, uint64_t *cursor, const uint64_t *row) {
     static uint64_t changes[CHANGES * VCD_CHANGE];
+    static listing whole;
     bytes reference = text_of(dump, row[VCD_ROW_START], row[VCD_ROW_LEN]);
     uint64_t count = 0, start[VCD_CURSOR];
     memcpy(start, cursor, sizeof(start));
     mark_words(changes, CHANGES * VCD_CHANGE);
     uint64_t status = vcd_list(dump.at, dump.len, cursor, VCD_CURSOR, row[VCD_ROW_ID], changes, CHANGES * VCD_CHANGE, &count);
     check_words(changes, count * VCD_CHANGE, CHANGES * VCD_CHANGE);
-    check_pieces(dump, start, row[VCD_ROW_ID], changes, count);
+    list_whole(dump, start, row[VCD_ROW_ID], &whole);
+    check(whole.status == status && whole.count == count && memcmp(whole.cursor, cursor, sizeof(start)) == 0);
+    check(memcmp(whole.changes, changes, sizeof(changes)) == 0);
+    /* 1,024 is so many pages of 1, 2 or 8 rows. */
+    check_pages(dump, start, row[VCD_ROW_ID], 1, &whole);
+    check_pages(dump, start, row[VCD_ROW_ID], 2, &whole);
+    check_pages(dump, start, row[VCD_ROW_ID], 8, &whole);
     for (size_t i = 0; i < count; i++) {
         uint64_t change[VCD_CHANGE];
         check(vcd_change(changes, CHANGES * VCD_CHANGE, i, change, VCD_CHANGE) == VCD_OK);

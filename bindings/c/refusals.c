@@ -9,8 +9,8 @@
 
 /* Two words or rows more than a call takes, to lend too much. */
 typedef struct {
-    uint64_t cursor[VCD_CURSOR + 1], writer[VCD_WRITER + 1], record[2 * VCD_RECORD], head[VCD_HEAD + 1], rows[4 * VCD_ROW];
-    uint64_t row[VCD_ROW + 1], changes[3 * VCD_CHANGE], change[VCD_CHANGE + 1], count, line, code;
+    uint64_t cursor[VCD_CURSOR + 1], writer[VCD_WRITER + 1], since[VCD_SINCE + 1], record[2 * VCD_RECORD], head[VCD_HEAD + 1];
+    uint64_t rows[4 * VCD_ROW], row[VCD_ROW + 1], changes[3 * VCD_CHANGE], change[VCD_CHANGE + 1], count, line, code, found;
     uint8_t out[256];
 } lent;
 
@@ -21,12 +21,14 @@ static const char TEXT[] = "$comment c $end $date d $end $version v $end $timesc
 static lent now, before;
 static unsigned checks, failed;
 
-/* The state that each check starts from: a fresh cursor and writer, a good record, header and listing. */
+/* The state that each check starts from: a fresh cursor and writer, no time, a good record, header and listing. */
 static void restore(void) {
     static const uint64_t cursor[VCD_CURSOR] = VCD_CURSOR_START, writer[VCD_WRITER] = VCD_WRITER_START;
+    static const uint64_t since[VCD_SINCE] = VCD_SINCE_START;
     memset(&now, 0x5a, sizeof(now));
     memcpy(now.cursor, cursor, sizeof(cursor));
     memcpy(now.writer, writer, sizeof(writer));
+    memcpy(now.since, since, sizeof(since));
     vcd_header(INPUT, now.cursor, VCD_CURSOR, now.rows, 4 * VCD_ROW, now.head, VCD_HEAD);
     vcd_list(INPUT, now.cursor, VCD_CURSOR, 0, now.changes, 3 * VCD_CHANGE, &now.count);
     memcpy(now.cursor, cursor, sizeof(cursor));
@@ -67,6 +69,8 @@ static void judge(int line, const char *call, uint64_t got, uint64_t wanted) {
 #define READ(cursor_len) vcd_read(INPUT, now.cursor, cursor_len, now.record, 2 * VCD_RECORD, &now.count)
 #define HEADER(cursor_len, head_len) vcd_header(INPUT, now.cursor, cursor_len, now.rows, 4 * VCD_ROW, now.head, head_len)
 #define LIST(cursor_len) vcd_list(INPUT, now.cursor, cursor_len, 0, now.changes, 3 * VCD_CHANGE, &now.count)
+#define LIST_ON(cursor_len, since_len)                                                                                                     \
+    vcd_list_on(INPUT, now.cursor, cursor_len, now.since, since_len, 0, now.changes, 3 * VCD_CHANGE, &now.count)
 #define REWRITE(cursor_len, writer_len)                                                                                                    \
     vcd_rewrite(INPUT, now.cursor, cursor_len, now.writer, writer_len, now.out, sizeof(now.out), &now.count, &now.line)
 #define COMMAND(writer_len, record_len)                                                                                                    \
@@ -82,6 +86,8 @@ static void lengths(void) {
         REFUSES(VCD_BAD_PLACE, HEADER(VCD_CURSOR + more, VCD_HEAD));
         REFUSES(VCD_BAD_PLACE, HEADER(VCD_CURSOR, VCD_HEAD + more));
         REFUSES(VCD_BAD_PLACE, LIST(VCD_CURSOR + more));
+        REFUSES(VCD_BAD_PLACE, LIST_ON(VCD_CURSOR + more, VCD_SINCE));
+        REFUSES(VCD_BAD_PLACE, LIST_ON(VCD_CURSOR, VCD_SINCE + more));
         REFUSES(VCD_BAD_PLACE, REWRITE(VCD_CURSOR + more, VCD_WRITER));
         REFUSES(VCD_BAD_PLACE, REWRITE(VCD_CURSOR, VCD_WRITER + more));
         REFUSES(VCD_BAD_PLACE, COMMAND(VCD_WRITER + more, VCD_RECORD));
@@ -100,6 +106,7 @@ static void cursor_refused(void) {
     REFUSES(VCD_BAD_PLACE, READ(VCD_CURSOR));
     REFUSES(VCD_BAD_PLACE, HEADER(VCD_CURSOR, VCD_HEAD));
     REFUSES(VCD_BAD_PLACE, LIST(VCD_CURSOR));
+    REFUSES(VCD_BAD_PLACE, LIST_ON(VCD_CURSOR, VCD_SINCE));
     REFUSES(VCD_BAD_PLACE, REWRITE(VCD_CURSOR, VCD_WRITER));
     restore();
 }
@@ -108,6 +115,13 @@ static void writer_refused(void) {
     REFUSES(VCD_BAD_PLACE, REWRITE(VCD_CURSOR, VCD_WRITER));
     REFUSES(VCD_BAD_PLACE, COMMAND(VCD_WRITER, VCD_RECORD));
     REFUSES(VCD_BAD_PLACE, WRITE_HEADER(VCD_WRITER, VCD_HEAD));
+    restore();
+}
+
+static void since_refused(uint64_t timed, uint64_t time) {
+    now.since[VCD_SINCE_TIMED] = timed;
+    now.since[VCD_SINCE_TIME] = time;
+    REFUSES(VCD_BAD_PLACE, LIST_ON(VCD_CURSOR, VCD_SINCE));
     restore();
 }
 
@@ -120,6 +134,8 @@ static void states(void) {
         cursor_refused();
         now.writer[VCD_WRITER_OPEN] = opens[i];
         writer_refused();
+        since_refused(bits[i], 0);
+        since_refused(0, bits[i]);
     }
 }
 
@@ -242,12 +258,18 @@ static void cursors_outside(void) {
         OUTSIDE;
         SETS(VCD_BAD_PLACE, LIST(VCD_CURSOR), count, 0);
         OUTSIDE;
+        now.since[VCD_SINCE_TIMED] = 1;
+        SETS(VCD_BAD_PLACE, LIST_ON(VCD_CURSOR, VCD_SINCE), count, 0);
+        OUTSIDE;
         SETS(VCD_BAD_PLACE, HEADER(VCD_CURSOR, VCD_HEAD), head, 0, 0, 0, 0, 0, 0, 0, 0, 0, 0);
         OUTSIDE;
         now.line = outside[i][VCD_CURSOR_LINE];
         SETS(VCD_BAD_PLACE, REWRITE(VCD_CURSOR, VCD_WRITER), count, 0);
     }
 }
+
+#define FIND(what, count, path, len)                                                                                                       \
+    vcd_find_##what(INPUT, now.rows, 4 * VCD_ROW, count, (const uint8_t *)(path), len, &now.found)
 
 static void tables(void) {
     REFUSES(VCD_BAD_PLACE, vcd_row(now.rows, 4 * VCD_ROW, 4, now.row, VCD_ROW));
@@ -260,10 +282,16 @@ static void tables(void) {
     now.changes[VCD_CHANGE_KIND] = 5;
     REFUSES(VCD_BAD_PLACE, vcd_change(now.changes, 3 * VCD_CHANGE, 0, now.change, VCD_CHANGE));
     restore();
-    REFUSES(VCD_NONE, vcd_find_scope(INPUT, now.rows, 4 * VCD_ROW, SIZE_MAX, (const uint8_t *)"x", 1));
-    REFUSES(VCD_NONE, vcd_find_var(INPUT, now.rows, 4 * VCD_ROW, SIZE_MAX, (const uint8_t *)"m", 1));
-    REFUSES(2, vcd_find_var(INPUT, now.rows, 4 * VCD_ROW, SIZE_MAX, (const uint8_t *)"m w", 3));
-    REFUSES(VCD_NONE, vcd_find_var(INPUT, now.rows, 4 * VCD_ROW, 2, (const uint8_t *)"m w", 3));
+    SETS(VCD_OK, FIND(scope, SIZE_MAX, "x", 1), found, VCD_NONE);
+    SETS(VCD_OK, FIND(var, SIZE_MAX, "m", 1), found, VCD_NONE);
+    SETS(VCD_OK, FIND(var, SIZE_MAX, "m w", 3), found, 2);
+    SETS(VCD_OK, FIND(var, 2, "m w", 3), found, VCD_NONE);
+    /* The last row's text outside the input: 25 wherever the path leads, where that row is among those counted. */
+    now.rows[2 * VCD_ROW + VCD_ROW_START] = sizeof(TEXT) - 1;
+    REFUSES(VCD_BAD_PLACE, FIND(var, SIZE_MAX, "m w", 3));
+    REFUSES(VCD_BAD_PLACE, FIND(scope, 3, "m", 1));
+    REFUSES(VCD_BAD_PLACE, FIND(scope, 3, "", 0));
+    SETS(VCD_OK, FIND(scope, 2, "m", 1), found, 1);
 }
 
 #define ID_CODE(text, len) vcd_id_code((const uint8_t *)(text), len, &now.code)

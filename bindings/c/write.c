@@ -1,4 +1,4 @@
-/* Write cases: a script of writer calls, each made by vcd_command. And the texts and codes of ids. */
+/* Write cases: a script of writer calls, each made by vcd_command, a header by vcd_write_header. And the texts and codes of ids. */
 #include "replay.h"
 
 #include <stdio.h>
@@ -6,6 +6,7 @@
 #include <string.h>
 
 #define MOST_ROOM 4096
+#define MOST_WORDS 1024
 
 /* The calls by number: name, kind, and what the words of a line are in their order: T type, S simulation command, N number, I id,
    X text, V index. */
@@ -35,7 +36,7 @@ static const struct {
     {"end", VCD_KIND_END, "S"},
 };
 
-enum { ADD_VAR = 9, ADD_WIRE = 10 };
+enum { ADD_VAR = 9, ADD_WIRE = 10, HEADER = 19 };
 
 /* An index number, which may be negative, as 32 bits of two's complement. */
 static uint64_t index_in(bytes word) {
@@ -80,13 +81,40 @@ static void fill_record(bytes line, uint64_t call, uint64_t next, uint64_t *reco
     }
 }
 
-static void put_ok(uint64_t call, const uint64_t *writer, const uint8_t *out, uint64_t count, uint64_t next) {
-    printf("%s ok", CALLS[call].name);
+/* The bytes that were written, and the state. */
+static void put_written(const uint64_t *writer, const uint8_t *out, uint64_t count) {
     put_number(count);
     put_text((bytes){out, (size_t)count});
     put_number(writer[VCD_WRITER_DEPTH]);
     put_number(writer[VCD_WRITER_NEXT]);
     put_open(writer[VCD_WRITER_OPEN]);
+}
+
+/* A header's words stand behind its number: those of the head, then the table's. Commands before a refusal stay. */
+static void answer_table(bytes source, bytes line, uint64_t *writer, uint64_t room) {
+    uint8_t out[MOST_ROOM];
+    uint64_t words[MOST_WORDS], count = 0;
+    size_t len = 0;
+    for (bytes word = word_at(line, 2); word.len > 0 && len < MOST_WORDS; word = word_at(line, (int)len + 2)) {
+        words[len++] = number_in(word);
+    }
+    check(len >= VCD_HEAD);
+    mark_bytes(out, MOST_ROOM);
+    uint64_t status = vcd_write_header(writer, VCD_WRITER, source.at, source.len, words, VCD_HEAD, words + VCD_HEAD, len - VCD_HEAD, out,
+                                       (size_t)room, &count);
+    if (status == VCD_OK) {
+        fputs("header ok", stdout);
+    } else {
+        printf("header refused %llu", (unsigned long long)status);
+    }
+    put_written(writer, out, count);
+    putchar('\n');
+    check_bytes(out, count, MOST_ROOM);
+}
+
+static void put_ok(uint64_t call, const uint64_t *writer, const uint8_t *out, uint64_t count, uint64_t next) {
+    printf("%s ok", CALLS[call].name);
+    put_written(writer, out, count);
     if (call == ADD_VAR || call == ADD_WIRE) {
         put_number(next);
     }
@@ -96,6 +124,10 @@ static void put_ok(uint64_t call, const uint64_t *writer, const uint8_t *out, ui
 static void answer_call(bytes source, bytes line, uint64_t *writer) {
     uint8_t out[MOST_ROOM];
     uint64_t room = number_in(word_at(line, 0)), call = number_in(word_at(line, 1));
+    if (room <= MOST_ROOM && call == HEADER) {
+        answer_table(source, line, writer, room);
+        return;
+    }
     if (room > MOST_ROOM || call < 1 || call >= sizeof(CALLS) / sizeof(CALLS[0])) {
         fputs("driver: no such call\n", stderr);
         exit(2);

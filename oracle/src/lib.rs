@@ -14,5 +14,6 @@ pub mod rng;
 pub mod script;
 pub mod stops;
 pub mod stream;
+pub mod table;
 pub mod tally;
 pub mod write;

@@ -1,4 +1,5 @@
 //! Scripts of writer calls: the form of a write case (docs/ORACLE.md), and its reading.
+use crate::table::Table;
 use std::str::SplitAsciiWhitespace;
 use vcd::{ReferenceIndex, ScopeType, SimulationCommand, TimescaleUnit, Value, VarType};
 
@@ -19,9 +20,10 @@ pub const VARS: [VarType; 18] = {
 };
 pub const VALUES: [Value; 4] = [Value::V0, Value::V1, Value::X, Value::Z];
 /// The name of call 1 and those after it.
-pub const NAMES: [&str; 18] = [
+pub const NAMES: [&str; 19] = [
     "comment", "date", "version", "timescale", "scope_def", "add_module", "upscope", "var_def", "add_var", "add_wire",
     "enddefinitions", "timestamp", "change_scalar", "change_vector", "change_real", "change_string", "begin", "end",
+    "header",
 ];
 
 /// A text's place in the source.
@@ -50,6 +52,7 @@ pub enum Call {
     ChangeString(u64, Text),
     Begin(SimulationCommand),
     End(SimulationCommand),
+    Header(Table),
 }
 
 #[derive(Clone, Copy)]
@@ -139,6 +142,7 @@ pub fn call(line: &str) -> (usize, Call) {
         16 => Call::ChangeString(n.next(), n.text()),
         17 => Call::Begin(n.simulation()),
         18 => Call::End(n.simulation()),
+        19 => Call::Header(Table::new(n.0.map(|s| s.parse().expect("a word of a table")).collect())),
         other => panic!("no call {other}"),
     };
     (number, call)

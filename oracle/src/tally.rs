@@ -111,5 +111,8 @@ fn outcomes(call: &str) -> Vec<String> {
     if !no_text.contains(&call) {
         outcomes.push(format!("{call} refused 25"));
     }
+    if call == "header" {
+        outcomes.push(format!("{call} refused 23"));
+    }
     outcomes
 }

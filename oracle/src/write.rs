@@ -2,6 +2,7 @@
 use crate::form;
 use crate::script::{self, Call, State, Text, NAMES};
 use crate::stops::caught;
+use crate::table::header;
 use std::fmt::Write;
 use std::str::from_utf8;
 use vcd::{IdCode, VarType, Vector, Writer};
@@ -13,35 +14,51 @@ pub struct Wrote {
     id: Option<u64>,
 }
 
+impl Wrote {
+    pub fn nothing(state: State) -> Wrote {
+        Wrote { bytes: Vec::new(), state, id: None }
+    }
+}
+
 pub fn answer(out: &mut String, case: &[u8]) {
     let script = script::split(case);
     let mut state = script.state;
     for line in script.calls.lines() {
         let (room, rest) = line.split_once(' ').expect("a room and a call");
         let (number, call) = script::call(rest);
+        let (refusal, wrote) = step(script.source, state, &call, room.parse().expect("a room"));
+        state = wrote.state;
         out.push_str(NAMES[number - 1]);
-        let room = room.parse().expect("a room");
-        match perform(script.source, state, &call, room) {
-            Ok(wrote) => {
-                state = wrote.state;
-                print(out, &wrote);
-            }
-            Err(number) => {
-                let _ = writeln!(out, " refused {number}");
-            }
+        let _ = match refusal {
+            Some(number) => write!(out, " refused {number}"),
+            None => write!(out, " ok"),
+        };
+        if refusal.is_none() || matches!(call, Call::Header(_)) {
+            print(out, &wrote);
         }
+        out.push('\n');
     }
 }
 
 fn print(out: &mut String, wrote: &Wrote) {
-    let _ = write!(out, " ok {}", wrote.bytes.len());
+    let _ = write!(out, " {}", wrote.bytes.len());
     form::text(out, &wrote.bytes);
     let _ = write!(out, " {} {}", wrote.state.depth, wrote.state.next);
     form::open(out, wrote.state.open);
     if let Some(id) = wrote.id {
         let _ = write!(out, " {id}");
     }
-    out.push('\n');
+}
+
+/// What a call writes, and the refusal that stopped it: only a header's call writes and is refused.
+pub fn step(source: &[u8], state: State, call: &Call, room: usize) -> (Option<u8>, Wrote) {
+    if let Call::Header(table) = call {
+        return header(source, state, table, room);
+    }
+    match perform(source, state, call, room) {
+        Ok(wrote) => (None, wrote),
+        Err(number) => (Some(number), Wrote::nothing(state)),
+    }
 }
 
 // page: the order of refusals is 25, 22, 21, and a refused call changes nothing.
@@ -63,18 +80,18 @@ pub fn perform(source: &[u8], state: State, call: &Call, room: usize) -> Result<
     Ok(wrote)
 }
 
-fn text_of(call: &Call) -> Option<Text> {
+pub fn text_of(call: &Call) -> Option<Text> {
     use Call::*;
     match *call {
         Comment(t) | Date(t) | Version(t) | ScopeDef(_, t) | AddModule(t) => Some(t),
         VarDef(_, _, _, t, _) | AddVar(_, _, t, _) | AddWire(_, t) => Some(t),
         ChangeVector(_, t) | ChangeReal(_, t) | ChangeString(_, t) => Some(t),
         Timescale(..) | Upscope | Enddefinitions | Timestamp(_) | ChangeScalar(..) => None,
-        Begin(_) | End(_) => None,
+        Begin(_) | End(_) | Header(_) => None,
     }
 }
 
-fn bytes_at(source: &[u8], text: Text) -> Option<&[u8]> {
+pub fn bytes_at(source: &[u8], text: Text) -> Option<&[u8]> {
     let end = text.start.checked_add(text.len)?;
     source.get(text.start as usize..end as usize)
 }
@@ -92,7 +109,7 @@ fn unwritable(state: State, call: &Call, text: &[u8]) -> bool {
         ChangeReal(id, _) => id == u64::MAX || real(text).is_none(),
         ChangeString(id, _) => id == u64::MAX || bad_name(text),
         End(command) => state.open != Some(command),
-        Upscope | Enddefinitions | Timestamp(_) | Begin(_) => false,
+        Upscope | Enddefinitions | Timestamp(_) | Begin(_) | Header(_) => false,
     }
 }
 
@@ -192,6 +209,7 @@ fn make(w: &mut Writer<Vec<u8>>, call: &Call, text: &[u8]) -> Option<u64> {
         Call::ChangeString(id, _) => w.change_string(IdCode::from(id), words),
         Call::Begin(c) => w.begin(c),
         Call::End(_) => w.end(),
+        Call::Header(_) => panic!("a header is many commands"),
     };
     done.unwrap();
     None

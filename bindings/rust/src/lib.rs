@@ -9,6 +9,8 @@
 //! * an error tells the library's refusal, its number and name ([`Refusal::of`]);
 //! * and the few of docs/DIFFERENCES.md.
 //!
+//! Added: [`Parser::changes`], the changes of one variable.
+//!
 //! Commands, headers and ids are read, and commands and ids written, by the library. Plain Rust makes the tree of a header from its
 //! rows, looks up in it, converts single names, values and indexes to and from text, and a real's text to and from `f64`.
 //!
@@ -18,6 +20,7 @@
 #![deny(unsafe_code)]
 #![warn(missing_docs)]
 
+mod changes;
 mod error;
 mod idcode;
 mod named;
@@ -29,6 +32,7 @@ mod scope;
 mod vector;
 mod write;
 
+pub use changes::{Change, ChangeKind, Changes};
 pub use error::{ParseError, ParseErrorKind, Refusal};
 pub use idcode::{IdCode, InvalidIdCode};
 pub use named::{InvalidScopeType, InvalidTimescaleUnit, InvalidValue, InvalidVarType};

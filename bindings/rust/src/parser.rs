@@ -1,6 +1,6 @@
 //! Reading: records are fetched in batches and handed out one by one.
 use crate::record::{command_of, header_of};
-use crate::{raw, Command, Header, ParseError};
+use crate::{raw, Changes, Command, Header, IdCode, ParseError};
 use std::cell::Cell;
 use std::io;
 use std::num::ParseIntError;
@@ -95,6 +95,20 @@ impl<R: AsRef<[u8]>> Parser<R> {
         header.map_err(|refusal| self.error(refusal, from, to).into())
     }
 
+    /// Lists the changes of an id code from where the parser stands, which stays there. `since` is the last timestamp before that, or
+    /// none; a change has it until another is read. Rows are fetched by pages, so that there may be any number of them.
+    ///
+    /// ```
+    /// use vcd_proved::{IdCode, Parser};
+    /// let parser = Parser::new(&b"0! #5 1! 1\" 0! "[..]);
+    /// let changes: Vec<_> = parser.changes(IdCode::FIRST, None).map(|c| c.unwrap()).collect();
+    /// let told: Vec<_> = changes.iter().map(|c| (c.time, c.value)).collect();
+    /// assert_eq!(told, [(None, &b"0"[..]), (Some(5), b"1"), (Some(5), b"0")]);
+    /// ```
+    pub fn changes(&self, code: IdCode, since: Option<u64>) -> Changes<'_> {
+        Changes::new(self.input.as_ref(), self.cursor(), code, since)
+    }
+
     /// The next batch.
     fn fetch(&mut self) {
         let mut count = 0;
@@ -139,10 +153,14 @@ impl<R: AsRef<[u8]>> Parser<R> {
         cursor
     }
 
-    /// The refusal of what was read between two cursors.
     fn error(&self, refusal: u64, from: raw::Cursor, to: raw::Cursor) -> ParseError {
-        ParseError::new(refusal.into(), to[1], || int_error(refused_command(self.input.as_ref(), from)))
+        parse_error(self.input.as_ref(), refusal, from, to)
     }
+}
+
+/// The refusal of what was read between two cursors.
+pub(crate) fn parse_error(input: &[u8], refusal: u64, from: raw::Cursor, to: raw::Cursor) -> ParseError {
+    ParseError::new(refusal.into(), to[1], || int_error(refused_command(input, from)))
 }
 
 impl<R: AsRef<[u8]>> Iterator for Parser<R> {

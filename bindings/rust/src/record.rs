@@ -49,7 +49,7 @@ pub(crate) fn command_of(input: &[u8], record: &[u64]) -> Option<Command> {
     })
 }
 
-fn bytes_at(input: &[u8], start: u64, len: u64) -> Option<&[u8]> {
+pub(crate) fn bytes_at(input: &[u8], start: u64, len: u64) -> Option<&[u8]> {
     let start = usize::try_from(start).ok()?;
     input.get(start..start.checked_add(usize::try_from(len).ok()?)?)
 }

@@ -1,8 +1,9 @@
 //! The exported functions that the crate's shapes do not need: listing, widening, rewriting, whole headers and look-ups, held to the
 //! recorded answers of the programs vcd_list, vcd_reformat and find_tests.
 mod common;
-use common::{cases, file};
-use vcd_proved::raw::{self, CHANGE, CURSOR_START, HEAD, NONE, OK, ROW, WRITER_START};
+use common::{cases, dumps, file};
+use vcd_proved::raw::{self, CHANGE, CURSOR_START, HEAD, LIST_FULL, NONE, OK, ROW, SINCE_START, WRITER_START};
+use vcd_proved::{Command, IdCode, Parser};
 
 /// The programs' limits.
 const TAKEN: usize = 65536;
@@ -130,6 +131,60 @@ fn listings_are_as_recorded() {
     compare("list", list);
 }
 
+/// The rows, how the listing ended, and the cursor and the time then: by pages of so many rows.
+fn pages(dump: &[u8], mut cursor: raw::Cursor, code: u64, lent: usize) -> (Vec<u64>, u64, raw::Cursor, raw::Since) {
+    let (mut all, mut rows, mut since, mut count) = (Vec::new(), vec![0; lent * CHANGE], SINCE_START, 0);
+    loop {
+        let status = raw::list_on(dump, &mut cursor, &mut since, code, &mut rows, &mut count);
+        all.extend(&rows[..count as usize * CHANGE]);
+        if status != LIST_FULL {
+            return (all, status, cursor, since);
+        }
+        assert_eq!(count as usize, lent);
+    }
+}
+
+#[test]
+fn pages_joined_are_the_one_listing() {
+    let mut listings = 0;
+    for dump in cases("list") {
+        let read = read_header(&dump);
+        for row in read.rows[..read.head[0] as usize * ROW].chunks(ROW).filter(|row| row[0] == 2) {
+            let whole = pages(&dump, read.cursor, row[4], 100_000);
+            for lent in [1, 3, 7] {
+                assert!(pages(&dump, read.cursor, row[4], lent) == whole, "pages of {lent} rows");
+            }
+            listings += 1;
+        }
+    }
+    println!("{listings} listings by pages");
+    assert!(listings > 100);
+}
+
+/// The times and lines of a code's changes, by the commands.
+fn told(parser: &mut Parser<&[u8]>, code: IdCode) -> Vec<(Option<u64>, u64)> {
+    let (mut time, mut told) = (None, Vec::new());
+    while let Some(Ok(command)) = parser.next_command() {
+        match command {
+            Command::Timestamp(t) => time = Some(t),
+            Command::ChangeScalar(i, _) | Command::ChangeVector(i, _) if i == code => told.push((time, parser.line())),
+            Command::ChangeReal(i, _) | Command::ChangeString(i, _) if i == code => told.push((time, parser.line())),
+            _ => {}
+        }
+    }
+    told
+}
+
+#[test]
+fn changes_are_those_of_the_commands() {
+    for dump in dumps() {
+        let mut parser = Parser::new(&dump[..]);
+        let listed: Vec<_> =
+            parser.changes(IdCode::FIRST, None).map_while(|c| c.ok()).map(|c| (c.time, c.line)).collect();
+        assert_eq!(listed, told(&mut parser, IdCode::FIRST));
+    }
+}
+
 #[test]
 fn rewritten_dumps_are_as_recorded() {
     compare("reformat", reformat);
@@ -154,21 +209,26 @@ fn look_ups_are_as_recorded() {
     let header = vcd_proved::Parser::new(&input).parse_header().unwrap();
     let theirs = vcd::Parser::new(&input[..]).parse_header().unwrap();
     let paths = std::str::from_utf8(&input[cursor[0] as usize..]).unwrap();
+    let mut row = 0;
     for path in paths.strip_prefix("--\n").unwrap().lines() {
         let (count, bytes) = (head[0] as usize, path.as_bytes());
-        assert_eq!(
-            found(&input, &rows, raw::find_scope(&input, &rows, count, bytes)),
-            wanted.next().unwrap(),
-            "scope {path:?}"
-        );
-        assert_eq!(
-            found(&input, &rows, raw::find_var(&input, &rows, count, bytes)),
-            wanted.next().unwrap(),
-            "var {path:?}"
-        );
+        assert_eq!(raw::find_scope(&input, &rows, count, bytes, &mut row), OK);
+        assert_eq!(found(&input, &rows, row), wanted.next().unwrap(), "scope {path:?}");
+        assert_eq!(raw::find_var(&input, &rows, count, bytes, &mut row), OK);
+        assert_eq!(found(&input, &rows, row), wanted.next().unwrap(), "var {path:?}");
         let names: Vec<&str> = if path.is_empty() { Vec::new() } else { path.split(' ').collect() };
         assert_eq!(format!("{:?}", header.find_scope(&names)), format!("{:?}", theirs.find_scope(&names)));
         assert_eq!(format!("{:?}", header.find_var(&names)), format!("{:?}", theirs.find_var(&names)));
     }
     assert_eq!(wanted.next(), None);
+}
+
+/// A row whose text lies outside the input is refused, and nothing is stored.
+#[test]
+fn rows_outside_are_not_found() {
+    let rows = [1, NONE, 0, 0, 0, 0, 9, 0, 0, 0];
+    let mut row = 7;
+    assert_eq!(raw::find_scope(b"abc", &rows, 1, b"abc", &mut row), raw::BAD_PLACE);
+    assert_eq!(raw::find_var(b"abc", &rows, 1, b"abc", &mut row), raw::BAD_PLACE);
+    assert_eq!(row, 7);
 }

@@ -308,7 +308,12 @@ fn compare_call(w: &mut Writer<Vec<u8>>, source: &[u8], line: &str, wanted: &str
     true
 }
 
-/// Calls compared and left out, in one case.
+/// A header's call over the words of a table, which safe Rust does not hand over; the C driver makes it.
+fn is_header(line: &str) -> bool {
+    Words::of(line).0.nth(1) == Some("19")
+}
+
+/// Calls compared and left out, in one case: those from a header's call on are left out, for it moves the state.
 fn replay(case: &[u8], recorded: &[&str]) -> (usize, usize) {
     let mut rest = case;
     let first = take_line(&mut rest);
@@ -318,7 +323,8 @@ fn replay(case: &[u8], recorded: &[&str]) -> (usize, usize) {
     let asked = match brought(&first) {
         None => 0,
         Some(mut w) => {
-            calls.iter().zip(recorded).filter(|(line, wanted)| compare_call(&mut w, source, line, wanted)).count()
+            let asked = calls.iter().zip(recorded).take_while(|(line, _)| !is_header(line));
+            asked.filter(|(line, wanted)| compare_call(&mut w, source, line, wanted)).count()
         }
     };
     (asked, calls.len() - asked)

@@ -9,7 +9,7 @@ ghost use lib.ListN.{length};
 fn main() {
     let mut dump = buffer();
     let n = write_dump::write_clocked_vcd(0xC0DE1234, &mut dump);
-    console::write_front(&dump, n);
+    let first = console::write_front(&dump, n);
     let mut line = [0u8; 32];
     let m = console::put_number(
         &mut line,
@@ -17,7 +17,8 @@ fn main() {
         read::read_clocked_vcd(console::front(&dump, n)) as u64,
     );
     let m = console::put_byte(&mut line, m, b'\n');
-    console::write_front(&line, m);
+    let second = console::write_front(&line, m);
+    console::finish(first && second, true, b"clocked: writing failed\n");
 }
 
 fn buffer() -> [u8; 4096]

@@ -34,6 +34,7 @@ fn wire(input: &[u8], rows: &[u64], count: usize, path: &[u8]) -> IdCode {
             Row::None => none,
         },
         FoundRow::None => none,
+        FoundRow::Refused(_) => none,
     }
 }
 

@@ -1,4 +1,5 @@
 // Writing: each call goes after the bytes of the one before, with the state that it answered.
+use command::Command;
 use command::SimulationCommand;
 use command::Time;
 use idcode::IdCode;
@@ -65,7 +66,7 @@ fn header(out: &mut [u8]) -> Dump {
         len: 0,
         writer: Writer::new(),
     };
-    let d = timescale(d, out);
+    let d = put(d, out, Command::Timescale(1, TimescaleUnit::US));
     let d = module(d, out, Text { start: 0, len: 3 });
     wires(d, out)
 }
@@ -73,15 +74,23 @@ fn header(out: &mut [u8]) -> Dump {
 fn wires(d: Dump, out: &mut [u8]) -> Dump {
     let d = wire(d, out, Text { start: 3, len: 5 });
     let d = wire(d, out, Text { start: 8, len: 4 });
-    let d = upscope(d, out);
-    enddefinitions(d, out)
+    let d = put(d, out, Command::Upscope);
+    put(d, out, Command::Enddefinitions)
 }
 
 fn initial(d: Dump, out: &mut [u8]) -> Dump {
-    let d = begin(d, out);
+    let d = put(d, out, Command::Begin(SimulationCommand::Dumpvars));
     let d = change(d, out, clock(), Value::V0);
     let d = change(d, out, data(), Value::V0);
-    end(d, out)
+    put(d, out, Command::End(SimulationCommand::Dumpvars))
+}
+
+fn timestamp(d: Dump, out: &mut [u8], t: u64) -> Dump {
+    put(d, out, Command::Timestamp(Time(t)))
+}
+
+fn change(d: Dump, out: &mut [u8], id: IdCode, v: Value) -> Dump {
+    put(d, out, Command::ChangeScalar(id, v))
 }
 
 // How much of the output is used: never more than there is.
@@ -94,10 +103,11 @@ fn used(d: Dump, out: &[u8]) -> usize
     d.len
 }
 
-fn timescale(d: Dump, out: &mut [u8]) -> Dump {
+// One function acts for all commands but those whose ids or types the writer chooses.
+fn put(d: Dump, out: &mut [u8], k: Command) -> Dump {
     let at = used(d, out);
     let w = d.writer;
-    accepted(d, w.timescale(1, TimescaleUnit::US, &mut out[at..]))
+    accepted(d, w.command(&NAMES, k, &mut out[at..]))
 }
 
 fn module(d: Dump, out: &mut [u8], name: Text) -> Dump {
@@ -110,42 +120,6 @@ fn wire(d: Dump, out: &mut [u8], name: Text) -> Dump {
     let at = used(d, out);
     let w = d.writer;
     added(d, w.add_wire(&NAMES, 1, name, &mut out[at..]))
-}
-
-fn upscope(d: Dump, out: &mut [u8]) -> Dump {
-    let at = used(d, out);
-    let w = d.writer;
-    accepted(d, w.upscope(&mut out[at..]))
-}
-
-fn enddefinitions(d: Dump, out: &mut [u8]) -> Dump {
-    let at = used(d, out);
-    let w = d.writer;
-    accepted(d, w.enddefinitions(&mut out[at..]))
-}
-
-fn begin(d: Dump, out: &mut [u8]) -> Dump {
-    let at = used(d, out);
-    let w = d.writer;
-    accepted(d, w.begin(SimulationCommand::Dumpvars, &mut out[at..]))
-}
-
-fn end(d: Dump, out: &mut [u8]) -> Dump {
-    let at = used(d, out);
-    let w = d.writer;
-    accepted(d, w.end(SimulationCommand::Dumpvars, &mut out[at..]))
-}
-
-fn timestamp(d: Dump, out: &mut [u8], t: u64) -> Dump {
-    let at = used(d, out);
-    let w = d.writer;
-    accepted(d, w.timestamp(Time(t), &mut out[at..]))
-}
-
-fn change(d: Dump, out: &mut [u8], id: IdCode, v: Value) -> Dump {
-    let at = used(d, out);
-    let w = d.writer;
-    accepted(d, w.change_scalar(id, v, &mut out[at..]))
 }
 
 // A refused call leaves the dump as it is.

@@ -1,3 +1,4 @@
+pub mod Ieee
 pub mod Words
 pub mod Refusals
 pub mod Meaning

@@ -1,5 +1,6 @@
 -- The page's number of each refusal.
 use Prim.Native.Nat.{ℕ}
+use Rattle.idcode.specs.declared.InvalidIdCode.{InvalidIdCode}
 use Rattle.command.specs.declared.Refusal.{Refusal}
 
 abbrev pub numberOf : Refusal → ℕ
@@ -28,3 +29,21 @@ numberOf Refusal.NotWritable = 22
 numberOf Refusal.BadTable = 23
 numberOf Refusal.ListFull = 24
 numberOf Refusal.BadPlace = 25
+
+-- The refusal of a text that a leaf does not take: as an id, as a unit of time, as a type of a scope or of a variable, as an index.
+abbrev pub idRefusal : InvalidIdCode → Refusal
+idRefusal InvalidIdCode.Empty = Refusal.IdEmpty
+idRefusal InvalidIdCode.InvalidChars = Refusal.IdInvalidChars
+idRefusal InvalidIdCode.TooLong = Refusal.IdTooLong
+
+abbrev pub unitRefusal : Refusal
+unitRefusal = Refusal.InvalidTimescaleUnit
+
+abbrev pub scopeTypeRefusal : Refusal
+scopeTypeRefusal = Refusal.InvalidScopeType
+
+abbrev pub varTypeRefusal : Refusal
+varTypeRefusal = Refusal.InvalidVarType
+
+abbrev pub indexRefusal : Refusal
+indexRefusal = Refusal.InvalidReferenceIndex

@@ -1,6 +1,7 @@
 // The commands of a dump, and every refusal with the number that the page gives it (the records of lib.rs of vcd 0.7.0).
 // Texts and vectors are places in the lent input.
 use idcode::IdCode;
+use idcode::InvalidIdCode;
 use scope::ReferenceIndex;
 use scope::ScopeType;
 use scope::VarType;
@@ -16,7 +17,7 @@ ghost use Rattle.text.specs.Bytes.{bytes, starts};
 ghost use Rattle.text.specs.Names.{lookup};
 ghost use Rattle.text.specs.Texts.{spelled};
 ghost use Rattle.command.specs.Words.{simName, words, wordOf, endMark, firstEnd};
-ghost use Rattle.command.specs.Refusals.{numberOf};
+ghost use Rattle.command.specs.Refusals.{numberOf, idRefusal};
 ghost use Rattle.command.specs.Numbers.{simNumber, simOf};
 
 // A time, in units of the timescale.
@@ -256,6 +257,17 @@ impl SimulationCommand {
 }
 
 impl Refusal {
+    // The refusal of a text that is no id.
+    pub fn from_id(e: InvalidIdCode) -> Refusal
+        ensures { λ r. ⌜ r ≡ idRefusal e ⌝ }
+    {
+        match e {
+            InvalidIdCode::Empty => Refusal::IdEmpty,
+            InvalidIdCode::InvalidChars => Refusal::IdInvalidChars,
+            InvalidIdCode::TooLong => Refusal::IdTooLong,
+        }
+    }
+
     // The page's number.
     pub fn number(self) -> u64
         ensures { λ r. ⌜ r ≡ numberOf self ⌝ }

@@ -11,7 +11,7 @@ use borrow.Author.Tests.{le-leb, lt-leb, leb-true, leb-false, not-true, not-fals
 use lib.Dec.{leb}
 use borrow.Rule.Slice.PartMut.{putMid}
 use lib.ListN.{length, take, drop, set, getD, length-append, length-drop, take-append-drop}
-use lib.Seq.{take-append-seam, take-append-le, take-take, take-at, take-add, drop-append-le, drop-append-add, drop-at, drop-drop, getD-drop, length-take-le, set-split, paste-suc}
+use lib.Seq.{take-append-seam, take-append-le, take-take, take-at, take-add, drop-append-le, drop-append-add, drop-at, drop-drop, getD-drop, length-take-le, set-split, paste-suc, drop-cons}
 use Rattle.text.specs.Texts.{spelled, textIn, putAnswer, putBytes}
 use Rattle.text.specs.declared.Placed.{Placed}
 use Rattle.text.specs.declared.Spelled.{Spelled}
@@ -75,6 +75,21 @@ each-stored o w at from zero h g =
 each-stored o w at from (suc n) h g =
     let e = each-stored o w at from n (omega arith) (omega arith) in
     rw (add-one (suc n)) at (stored-step o (drop from w) at (suc n) e refl (sym (getD-drop from w (suc n) 0)) h (simp length-drop (omega arith)))
+
+-- the n bytes of w from `from + k` on, one by one
+abbrev pub row : List ℕ → ℕ → ℕ → ℕ → List ℕ
+row w from k zero = []
+row w from k (suc n) = getD w (from + k) 0 ∷ row w from (suc k) n
+
+row-is : (w : List ℕ) (from k n : ℕ) → from + k + n ≤ length w → take n (drop (from + k) w) ≡ row w from k n
+row-is w from k zero h = refl
+row-is w from k (suc n) h =
+    let e : suc (from + k) ≡ from + suc k = omega arith in
+    rw (drop-cons w (from + k) 0 (omega arith), e) (ap (λ (l : List ℕ). getD w (from + k) 0 ∷ l) (row-is w from (suc k) n (omega arith)))
+
+-- eight bytes of a word
+pub eight-from : (w : List ℕ) (from : ℕ) → from + 8 ≤ length w → take 8 (drop from w) ≡ getD w from 0 ∷ row w from 1 7
+eight-from w from h = rw (add-zero from) at (row-is w from 0 8 (omega arith))
 
 -- ---- a run of words, each from where the last one ended: what it leaves, and where it ends
 abbrev pub puts : List ℕ → ℕ → List (List ℕ) → List ℕ

@@ -11,6 +11,7 @@ ghost use Rattle.text.specs.Bytes.{bytes};
 ghost use Rattle.text.specs.Texts.{putAnswer, putBytes};
 ghost use Rattle.text.specs.declared.Placed.{Placed};
 ghost use Rattle.command.specs.Words.{endMark};
+ghost use Rattle.idcode.specs.Id.{idText};
 ghost use Rattle.value.specs.Values.{lower};
 ghost use Rattle.emit.specs.Put.{concat, stored, timeText, scalarText, vectorText, Inside, closedAnswer, closedBytes};
 
@@ -83,6 +84,14 @@ fn put_eight(out: &mut [u8], at: usize, word: &[u8], from: usize)
     let f = word[from + 5];
     let g = word[from + 6];
     let h = word[from + 7];
+    store_eight(out, at, a, b, c, d, e, f, g, h);
+}
+
+// Eight bytes one after the other.
+fn store_eight(out: &mut [u8], at: usize, a: u8, b: u8, c: u8, d: u8, e: u8, f: u8, g: u8, h: u8)
+    requires { ⌜ at + 8 ≤ length (now out) ⌝ }
+    ensures { λ _. ⌜ now (out .exit) ≡ stored (now (out .entry)) at (a ∷ b ∷ c ∷ d ∷ e ∷ f ∷ g ∷ h ∷ []) ⌝ }
+{
     out[at] = a;
     out[at + 1] = b;
     out[at + 2] = c;
@@ -150,6 +159,21 @@ pub fn emit(a: &[u8], b: &[u8], c: &[u8], d: &[u8], e: &[u8], out: &mut [u8]) ->
     Placed::Count(put_five(out, 0, a, b, c, d, e))
 }
 
+// What closes a command: a byte, the mark and a newline.
+fn put_closing(out: &mut [u8], at: usize, gap: u8) -> usize
+    requires { ⌜ at + 6 ≤ length (now out) ⌝ }
+    ensures { λ r. ⌜ (r ≡ at + 6) × (now (out .exit) ≡ stored (now (out .entry)) at (gap ∷ (endMark ++ bytes "\n"))) ⌝ }
+{
+    let mark = command::END;
+    out[at] = gap;
+    out[at + 1] = mark[0];
+    out[at + 2] = mark[1];
+    out[at + 3] = mark[2];
+    out[at + 4] = mark[3];
+    out[at + 5] = b'\n';
+    at + 6
+}
+
 // The words of a command that closes with the mark.
 fn put_closed(
     out: &mut [u8],
@@ -158,39 +182,52 @@ fn put_closed(
     a: &[u8],
     mid: &[u8],
     b: &[u8],
-    last: &[u8],
+    last: u8,
 ) -> usize
-    requires { ⌜ 6 + length (now last) + (length (now word) + length (now gap) + length (now a) + length (now mid) + length (now b)) ≤ length (now out) ⌝ }
-    ensures { λ r. ⌜ (r ≡ length (concat (bytes "$" ∷ now (word .entry) ∷ now (gap .entry) ∷ now (a .entry) ∷ now (mid .entry) ∷ now (b .entry) ∷ now (last .entry) ∷ endMark ∷ bytes "\n" ∷ []))) × (now (out .exit) ≡ stored (now (out .entry)) 0 (concat (bytes "$" ∷ now (word .entry) ∷ now (gap .entry) ∷ now (a .entry) ∷ now (mid .entry) ∷ now (b .entry) ∷ now (last .entry) ∷ endMark ∷ bytes "\n" ∷ []))) ⌝ }
+    requires { ⌜ 7 + (length (now word) + length (now gap) + length (now a) + length (now mid) + length (now b)) ≤ length (now out) ⌝ }
+    ensures { λ r. ⌜ (r ≡ length (concat (bytes "$" ∷ now (word .entry) ∷ now (gap .entry) ∷ now (a .entry) ∷ now (mid .entry) ∷ now (b .entry) ∷ (last ∷ []) ∷ endMark ∷ bytes "\n" ∷ []))) × (now (out .exit) ≡ stored (now (out .entry)) 0 (concat (bytes "$" ∷ now (word .entry) ∷ now (gap .entry) ∷ now (a .entry) ∷ now (mid .entry) ∷ now (b .entry) ∷ (last ∷ []) ∷ endMark ∷ bytes "\n" ∷ []))) ⌝ }
 {
-    let n = put_five(out, 0, b"$", word, gap, a, mid);
-    put_five(out, n, b, last, &command::END, b"\n", b"")
+    out[0] = b'$';
+    let n = put_five(out, 1, word, gap, a, mid, b);
+    put_closing(out, n, last)
 }
 
-// A command that closes with the mark: `$` and its word, then `gap`, `a`, `mid`, `b` and `last`, then the mark and a newline.
+// A command that closes with the mark: `$` and its word, then `gap`, `a`, `mid` and `b`, then `last`, the mark and a newline.
 pub fn emit_closed(
     word: &[u8],
     gap: &[u8],
     a: &[u8],
     mid: &[u8],
     b: &[u8],
-    last: &[u8],
+    last: u8,
     out: &mut [u8],
 ) -> Placed
-    ensures { λ r. ⌜ (r ≡ putAnswer (concat (bytes "$" ∷ now (word .entry) ∷ now (gap .entry) ∷ now (a .entry) ∷ now (mid .entry) ∷ now (b .entry) ∷ now (last .entry) ∷ endMark ∷ bytes "\n" ∷ [])) (now (out .entry))) × (now (out .exit) ≡ putBytes (concat (bytes "$" ∷ now (word .entry) ∷ now (gap .entry) ∷ now (a .entry) ∷ now (mid .entry) ∷ now (b .entry) ∷ now (last .entry) ∷ endMark ∷ bytes "\n" ∷ [])) (now (out .entry))) ⌝ }
+    ensures { λ r. ⌜ (r ≡ putAnswer (concat (bytes "$" ∷ now (word .entry) ∷ now (gap .entry) ∷ now (a .entry) ∷ now (mid .entry) ∷ now (b .entry) ∷ (last ∷ []) ∷ endMark ∷ bytes "\n" ∷ [])) (now (out .entry))) × (now (out .exit) ≡ putBytes (concat (bytes "$" ∷ now (word .entry) ∷ now (gap .entry) ∷ now (a .entry) ∷ now (mid .entry) ∷ now (b .entry) ∷ (last ∷ []) ∷ endMark ∷ bytes "\n" ∷ [])) (now (out .entry))) ⌝ }
 {
-    if out.len() < 6 {
+    if out.len() < 7 {
         return Placed::NoRoom;
     }
-    let room = out.len() - 6;
-    if room < last.len() {
-        return Placed::NoRoom;
-    }
-    let room = room - last.len();
+    let room = out.len() - 7;
     if !fits(room, word.len(), gap.len(), a.len(), mid.len(), b.len()) {
         return Placed::NoRoom;
     }
     Placed::Count(put_closed(out, word, gap, a, mid, b, last))
+}
+
+// A command that is its word alone.
+pub fn emit_bare(word: &[u8], out: &mut [u8]) -> Placed
+    ensures { λ r. ⌜ (r ≡ putAnswer (concat (bytes "$" ∷ now (word .entry) ∷ bytes " " ∷ endMark ∷ bytes "\n" ∷ [])) (now (out .entry))) × (now (out .exit) ≡ putBytes (concat (bytes "$" ∷ now (word .entry) ∷ bytes " " ∷ endMark ∷ bytes "\n" ∷ [])) (now (out .entry))) ⌝ }
+{
+    emit_closed(word, b"", b"", b"", b"", b' ', out)
+}
+
+// A change whose text is kept, a real's or a string's: its first byte, the text and the id.
+pub fn emit_text(first: u8, t: &[u8], id: IdCode, out: &mut [u8]) -> Placed
+    ensures { λ r. ⌜ (r ≡ putAnswer (concat ((first ∷ []) ∷ now (t .entry) ∷ bytes " " ∷ idText (id .0) ∷ bytes "\n" ∷ [])) (now (out .entry))) × (now (out .exit) ≡ putBytes (concat ((first ∷ []) ∷ now (t .entry) ∷ bytes " " ∷ idText (id .0) ∷ bytes "\n" ∷ [])) (now (out .entry))) ⌝ }
+{
+    let i = id.spell();
+    let code = i.bytes;
+    emit(&[first], t, b" ", front(&code, i.len), b"\n", out)
 }
 
 // A first byte and a newline, around what p says to stand from place 1 on.

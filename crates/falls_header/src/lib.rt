@@ -1,22 +1,12 @@
-// The contracts of headers and records once more, each over its call: wrong programs are edits of these.
+// The contracts of rows, records and look-ups once more, each over its call: wrong programs are edits of these.
 pub mod table;
 
 use find::FoundRow;
 use find::Kind;
-use header::HeaderAnswer;
 use rows::Row;
-use token::Cursor;
 ghost use mathlib.Core.Path.{_≡_};
-ghost use Rattle.header.specs.Header.{headerOf, answerOf};
-ghost use Rattle.rows.specs.Rows.{filled, rowAt};
+ghost use Rattle.rows.specs.Rows.{rowAt};
 ghost use Rattle.find.specs.Find.{found};
-
-pub fn read_header(input: &[u8], c: Cursor, rows: &mut [u64]) -> HeaderAnswer
-    ensures answer { λ r. ⌜ r ≡ answerOf (headerOf (now (input .entry)) c (now (rows .entry))) ⌝ }
-    ensures table { λ _. ⌜ now (rows .exit) ≡ filled (headerOf (now (input .entry)) c (now (rows .entry)) .rows) (now (rows .entry)) ⌝ }
-{
-    header::read_header(input, c, rows)
-}
 
 pub fn row_at(rows: &[u64], i: usize) -> Row
     ensures { λ r. ⌜ r ≡ rowAt (now (rows .entry)) i ⌝ }

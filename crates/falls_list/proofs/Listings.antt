@@ -12,7 +12,7 @@ use Rattle.token.specs.Read.{byteRead, skipped, gap, word, after, wordToken, wo
 use Rattle.parser_part.specs.Plan.{run, kindOf}
 use Rattle.parser.specs.Next.{isGood, found, nextFrom, fresh}
 use Rattle.parser.specs.All.{commandsOn, commands}
-use Rattle.listing.specs.Listing.{changes, roomed, listOf, answerOf}
+use Rattle.listing.specs.Listing.{changes, listIn, listOf, answerOf}
 use Rattle.listing.specs.declared.ListAnswer.{ListAnswer}
 use Rattle.falls_list.specs.Stated.{ListingsFall}
 
@@ -27,17 +27,17 @@ abbrev count : ListAnswer → ℕ
 count a = a .count
 
 none : count (answerOf (listOf [] fresh code table)) ≡ 0
-unfolding listOf roomed changes commands commandsOn nextFrom isGood found skipped gap after
+unfolding listIn changes commands commandsOn nextFrom isGood found skipped gap after
 none = refl
 
 single : count (answerOf (listOf (bytes "1! ") fresh code table)) ≡ 1
-unfolding listOf roomed changes commands commandsOn nextFrom isGood found kindOf run skipped gap word after byteRead isBlank has token wordHere wordToken part validUtf8 wellFormed dueAfter lies parseId isIdByte allId idTail sumFrom
+unfolding listIn changes commands commandsOn nextFrom isGood found kindOf run skipped gap word after byteRead isBlank has token wordHere wordToken part validUtf8 wellFormed dueAfter lies parseId isIdByte allId idTail sumFrom
 single = refl
 
 pub listings-fall : ListingsFall
 listings-fall =
     record {
-      invented-count = λ n d e l h.
+      invented-count = λ n d e u l h.
           let z : n fresh code table ≡ 0 = ap count (h [] fresh code table .0) ∙ none in
           let o : n fresh code table ≡ 1 = ap count (h (bytes "1! ") fresh code table .0) ∙ single in
           omega arith;

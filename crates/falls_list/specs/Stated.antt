@@ -4,7 +4,9 @@ use Prim.Native.Nat.{ℕ, _+_}
 use mathlib.Core.Path.{_≡_}
 use mathlib.Core.List.{List}
 use Rattle.idcode.specs.declared.IdCode.{IdCode}
-use Rattle.listing.specs.Listing.{listOf, answerOf, filled}
+use Rattle.change.specs.Rows.{filled}
+use Rattle.change.specs.declared.Since.{Since}
+use Rattle.listing.specs.Listing.{listOf, answerOf}
 use Rattle.listing.specs.declared.Ended.{Ended}
 use Rattle.listing.specs.declared.ListAnswer.{ListAnswer}
 use Rattle.token.specs.declared.Cursor.{Cursor}
@@ -19,14 +21,14 @@ Lists a l =
     → (a s c i t ≡ answerOf (listOf s c i t)) × (l s c i t ≡ filled (listOf s c i t .rows) t)
 
 -- 6: the count is not the input's; or it is one too many
-abbrev pub invented : (Cursor → IdCode → List ℕ → ℕ) → OfList Cursor → OfList Ended → OfList ListAnswer
-invented n d e s c i t = record { cursor = d s c i t; count = n c i t; ended = e s c i t }
+abbrev pub invented : (Cursor → IdCode → List ℕ → ℕ) → OfList Cursor → OfList Ended → OfList Since → OfList ListAnswer
+invented n d e u s c i t = record { cursor = d s c i t; count = n c i t; ended = e s c i t; since = u s c i t }
 
 abbrev pub oneMore : OfList ListAnswer
 oneMore s c i t =
-    let a : ListAnswer = answerOf (listOf s c i t) in record { cursor = a .cursor; count = a .count + 1; ended = a .ended }
+    let a : ListAnswer = answerOf (listOf s c i t) in record { cursor = a .cursor; count = a .count + 1; ended = a .ended; since = a .since }
 
 pub record ListingsFall : Type 0 where
   pub invented-count :
-      (n : Cursor → IdCode → List ℕ → ℕ) (d : OfList Cursor) (e : OfList Ended) (l : OfList (List ℕ)) → Lists (invented n d e) l → ⊥
+      (n : Cursor → IdCode → List ℕ → ℕ) (d : OfList Cursor) (e : OfList Ended) (u : OfList Since) (l : OfList (List ℕ)) → Lists (invented n d e u) l → ⊥
   pub one-more : (l : OfList (List ℕ)) → Lists oneMore l → ⊥

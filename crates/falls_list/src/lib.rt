@@ -2,12 +2,13 @@
 use idcode::IdCode;
 use listing::Change;
 use listing::ListAnswer;
+use listing::Since;
 use text::Text;
 use token::Cursor;
 use widen::Widened;
 ghost use mathlib.Core.Path.{_≡_};
-ghost use Rattle.listing.specs.Listing.{listOf, answerOf, filled};
-ghost use Rattle.listing.specs.Rows.{changeAt};
+ghost use Rattle.change.specs.Rows.{changeAt, filled};
+ghost use Rattle.listing.specs.Listing.{listOf, listOnOf, answerOf};
 ghost use Rattle.widen.specs.Widen.{widenAnswer, widenBytes};
 
 pub fn list(input: &[u8], c: Cursor, code: IdCode, rows: &mut [u64]) -> ListAnswer
@@ -15,6 +16,13 @@ pub fn list(input: &[u8], c: Cursor, code: IdCode, rows: &mut [u64]) -> ListAnsw
     ensures table { λ _. ⌜ now (rows .exit) ≡ filled (listOf (now (input .entry)) c code (now (rows .entry)) .rows) (now (rows .entry)) ⌝ }
 {
     listing::list(input, c, code, rows)
+}
+
+pub fn list_on(input: &[u8], c: Cursor, since: Since, code: IdCode, rows: &mut [u64]) -> ListAnswer
+    ensures answer { λ r. ⌜ r ≡ answerOf (listOnOf (now (input .entry)) c since code (now (rows .entry))) ⌝ }
+    ensures table { λ _. ⌜ now (rows .exit) ≡ filled (listOnOf (now (input .entry)) c since code (now (rows .entry)) .rows) (now (rows .entry)) ⌝ }
+{
+    listing::list_on(input, c, since, code, rows)
 }
 
 pub fn change_at(rows: &[u64], i: usize) -> Change

@@ -2,13 +2,7 @@
 use parser_part::Next;
 use token::Cursor;
 ghost use mathlib.Core.Path.{_≡_};
-ghost use Rattle.parser.specs.Next.{fresh as freshCursor, nextFrom};
-
-pub fn start() -> Cursor
-    ensures { λ r. ⌜ r ≡ freshCursor ⌝ }
-{
-    parser::start()
-}
+ghost use Rattle.parser.specs.Next.{nextFrom};
 
 pub fn next_command(input: &[u8], c: Cursor) -> Next
     ensures { λ r. ⌜ r ≡ nextFrom (now (input .entry)) c ⌝ }

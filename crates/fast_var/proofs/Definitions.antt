@@ -38,7 +38,7 @@ use Rattle.parser.proofs.Ahead.{valid-good}
 use Rattle.parser_part.proofs.Arms.{answered}
 use Rattle.parser_part.proofs.Hits.{Lone, whole-lone, textAt, word-here, word-part}
 use Rattle.parser_part.proofs.Kept.{token-valid}
-use Rattle.parser_part.proofs.Parts.{run-token}
+use Rattle.parser_part.proofs.Parts.{run-token, run-no-limit}
 use Rattle.fast.specs.Fast.{Reads}
 use Rattle.fast_var.specs.FastVar.{HitsVar, Gap, Worded, Begins, Ends, HitsType, IndexAt, variable, Carries, Goes}
 use Rattle.fast_var.specs.declared.FastIndex.{FastIndex}
@@ -236,7 +236,9 @@ module _ {s : List ℕ} (k : VarType) (n : ℕ) (i : IdCode) where
   -- the name, and spaces after it
   module _ {at q e last : ℕ} (g : Gap s at q) (w : Worded s q e) (short : length s ≤ limit) (a : Gap s (e + 1) last) where
     pub goes-name : (r : FastVar) → Goes s last (varEnd (variable k n i (textAt q e) ReferenceIndex.None)) r → Goes s at (varName k n i) r
-    goes-name (FastVar.Hit v z) h = carries-word g w limit (omega (arith, w .inside)) _ refl (carries-gap a _ _ h)
+    goes-name (FastVar.Hit v z) h =
+        let r = carries-word g w limit (omega (arith, w .inside)) _ refl (carries-gap a _ _ h) in
+        record { past = r .past; inside = r .inside; reads = λ c x p. run-no-limit s c _ x ∙ r .reads c x p }
     goes-name FastVar.Miss h = tt
 
     pub ends-name : Ends s last → (v : Var) → v ≡ variable k n i (textAt q e) ReferenceIndex.None

@@ -11,7 +11,7 @@ use lib.Seq.{drop-drop}
 use Rattle.scope.specs.Index.{upToByte}
 use Rattle.text.specs.declared.Text.{Text}
 use Rattle.text.proofs.Lists.{by-test, take-rest}
-use Rattle.find.specs.Find.{isNamed, firstNamed, namesOn, names, into, findFrom, found}
+use Rattle.find.specs.Find.{isNamed, firstNamed, namesOn, names, into, findFrom, sought}
 use Rattle.rows.specs.Rows.{rowAt, rowsFrom, top, rowsOf}
 use Rattle.find.specs.declared.FoundRow.{FoundRow}
 use Rattle.find.specs.declared.Kind.{Kind}
@@ -66,15 +66,15 @@ name-front (b ∷ l) n e =
 pub name-count : (l : List ℕ) (n : ℕ) → n ≡ length (first l) → n ≡ length (take n l)
 name-count l n e = e ∙ sym (ap length (name-front l n e))
 
-pub found-none : (s : List ℕ) (kind : Kind) (table : List ℕ) (n : ℕ) (path : List ℕ) → length path ≡ 0 → FoundRow.None ≡ found s kind table n path
-unfolding found names findFrom
-found-none s kind table n [] e = refl
-found-none s kind table n (b ∷ path) e = absurd (omega arith)
+pub sought-none : (s : List ℕ) (kind : Kind) (table : List ℕ) (n : ℕ) (path : List ℕ) → length path ≡ 0 → FoundRow.None ≡ sought s kind table n path
+unfolding sought names findFrom
+sought-none s kind table n [] e = refl
+sought-none s kind table n (b ∷ path) e = absurd (omega arith)
 
-pub found-some : (s : List ℕ) (kind : Kind) (table : List ℕ) (n : ℕ) (path : List ℕ) → (length path ≡ 0 → ⊥)
-    → found s kind table n path ≡ findFrom s kind (rowsOf table n) top (pieces path)
-unfolding found
-found-some s kind table n path h = ap (findFrom s kind (rowsOf table n) top) (names-some path h)
+pub sought-some : (s : List ℕ) (kind : Kind) (table : List ℕ) (n : ℕ) (path : List ℕ) → (length path ≡ 0 → ⊥)
+    → sought s kind table n path ≡ findFrom s kind (rowsOf table n) top (pieces path)
+unfolding sought
+sought-some s kind table n path h = ap (findFrom s kind (rowsOf table n) top) (names-some path h)
 
 -- some names stand there
 some : (P : List (List ℕ) → Type 0) (l : List ℕ) → ((a : List ℕ) (r : List (List ℕ)) → P (a ∷ r)) → P (pieces l)

@@ -1,13 +1,15 @@
 -- Looking up a row by a path of names, as the crate's find_scope and find_var: each name but the last is the first scope of that name
 -- among the items of the one before; the last is the first scope or variable of that name among the items there.
 use Prim.Native.Nat.{ℕ, zero, suc, _+_}
-use mathlib.Core.Bool.{Bool, false, cond, _&&_}
+use mathlib.Core.Bool.{Bool, false, cond, _&&_, _||_}
 use mathlib.Core.List.{List, [], _∷_}
 use lib.Dec.{eqb, ltb}
 use lib.ListN.{length, drop}
 use Rattle.scope.specs.Index.{upToByte}
 use Rattle.text.specs.Bytes.{equal}
-use Rattle.text.specs.Texts.{part}
+use Rattle.text.specs.Texts.{part, tooLong}
+use Rattle.command.specs.declared.Refusal.{Refusal}
+use Rattle.tree.specs.Place.{someOutside}
 use Rattle.rows.specs.Rows.{parentWord, rowsOf, top}
 use Rattle.find.specs.declared.FoundRow.{FoundRow}
 use Rattle.find.specs.declared.Kind.{Kind}
@@ -44,6 +46,7 @@ names (b ∷ path) = namesOn (suc (length (b ∷ path))) (b ∷ path)
 abbrev pub into : (ℕ → FoundRow) → FoundRow → FoundRow
 into more (FoundRow.At n) = more (n .0)
 into more FoundRow.None = FoundRow.None
+into more (FoundRow.Refused e) = FoundRow.Refused e
 
 unfoldable pub findFrom : List ℕ → Kind → List Row → ℕ → List (List ℕ) → FoundRow
 findFrom s kind rs p [] = FoundRow.None
@@ -52,5 +55,10 @@ findFrom s kind rs p (name ∷ more ∷ path) =
     into (λ q. findFrom s kind rs q (more ∷ path)) (firstNamed s Kind.Scope p name 0 rs)
 
 -- among the first n rows of a table, or as many as it has
+unfoldable pub sought : List ℕ → Kind → List ℕ → ℕ → List ℕ → FoundRow
+sought s kind table n path = findFrom s kind (rowsOf table n) top (names path)
+
+-- 25 first: the input is over the limit, or one of these rows has a text outside it
 unfoldable pub found : List ℕ → Kind → List ℕ → ℕ → List ℕ → FoundRow
-found s kind table n path = findFrom s kind (rowsOf table n) top (names path)
+found s kind table n path =
+    cond (tooLong s || someOutside s (rowsOf table n)) (FoundRow.Refused Refusal.BadPlace) (sought s kind table n path)

@@ -1,15 +1,18 @@
 // Looking up a row by a path of names, as the crate's `Header::find_scope` and `Header::find_var`.
+use command::Refusal;
 use rows::Row;
 use rows::RowNumber;
 ghost use mathlib.Core.Path.{_≡_};
 ghost use lib.ListN.{length};
 ghost use Rattle.scope.specs.Index.{upToByte};
 ghost use Rattle.rows.specs.Rows.{rowsOf};
-ghost use Rattle.find.specs.Find.{found, isNamed, firstNamed};
+ghost use Rattle.find.specs.Find.{found, sought, isNamed, firstNamed};
 
+// The row; none; or 25, where a text of the rows lies outside the input.
 pub enum FoundRow {
     At(RowNumber),
     None,
+    Refused(Refusal),
 }
 
 // What is looked for.
@@ -32,8 +35,21 @@ pub fn find_var(input: &[u8], rows: &[u64], count: usize, path: &[u8]) -> FoundR
     find(input, Kind::Var, rows, count, path)
 }
 
+// Texts are compared only where all of them lie in the input.
 fn find(input: &[u8], kind: Kind, rows: &[u64], count: usize, path: &[u8]) -> FoundRow
     ensures { λ r. ⌜ r ≡ found (now (input .entry)) kind (now (rows .entry)) count (now (path .entry)) ⌝ }
+{
+    if text::LIMIT < input.len() {
+        return FoundRow::Refused(Refusal::BadPlace);
+    }
+    if tree::place::some_outside(input, rows, count) {
+        return FoundRow::Refused(Refusal::BadPlace);
+    }
+    seek(input, kind, rows, count, path)
+}
+
+fn seek(input: &[u8], kind: Kind, rows: &[u64], count: usize, path: &[u8]) -> FoundRow
+    ensures { λ r. ⌜ r ≡ sought (now (input .entry)) kind (now (rows .entry)) count (now (path .entry)) ⌝ }
 {
     if path.len() == 0 {
         return FoundRow::None;
@@ -54,6 +70,9 @@ fn find(input: &[u8], kind: Kind, rows: &[u64], count: usize, path: &[u8]) -> Fo
             }
             FoundRow::None => {
                 return FoundRow::None;
+            }
+            FoundRow::Refused(e) => {
+                return FoundRow::Refused(e);
             }
         }
     }

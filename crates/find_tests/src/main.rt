@@ -13,7 +13,7 @@ fn main() {
     let mut out = [0u8; 4096];
     let n = replay::read_input(&mut input);
     let used = answer_all(replay::front(&input, n), &mut out);
-    replay::write_front(&out, used);
+    replay::finish(replay::write_front(&out, used));
 }
 
 // The header ends at its `$enddefinitions`, and the paths begin after the line `--`.
@@ -72,6 +72,7 @@ fn put_found(input: &[u8], rows: &[u64], found: FoundRow, out: &mut [u8], at: us
     match found {
         FoundRow::At(n) => put_row(input, rows::row_at(rows, n.0 as usize), out, at),
         FoundRow::None => put(out, at, b" -\n"),
+        FoundRow::Refused(_) => put(out, at, b" refused\n"),
     }
 }
 

@@ -191,7 +191,7 @@ fn parse_scope(
     }
 }
 
-// The variables in their usual form that stand next are told by quick looks, and their rows stored.
+// The variables in their usual form that stand next, by the fast path; their rows are stored.
 fn take_vars(
     input: &[u8],
     from: Cursor,

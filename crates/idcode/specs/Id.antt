@@ -3,6 +3,7 @@ use Prim.Native.Nat.{ℕ, zero, suc, _+_, _-_, _*_, _/_, _%_, _^_}
 use mathlib.Core.Bool.{Bool, true, false, cond}
 use mathlib.Core.List.{List, [], _∷_}
 use lib.Dec.{leb, eqb}
+use Rattle.idcode.specs.Ieee.{firstCharacter, lastCharacter}
 use Rattle.idcode.specs.declared.IdCode.{IdCode}
 use Rattle.idcode.specs.declared.InvalidIdCode.{InvalidIdCode}
 use Rattle.idcode.specs.declared.InvalidIdCode.the-variants.{Empty, InvalidChars, TooLong}
@@ -12,7 +13,7 @@ use Rattle.idcode.specs.declared.Following.{Following}
 
 -- a byte of an id text: 33 to 126
 unfoldable pub isIdByte : ℕ → Bool
-isIdByte b = cond (leb 33 b) (leb b 126) false
+isIdByte b = cond (leb firstCharacter b) (leb b lastCharacter) false
 
 unfoldable pub allId : List ℕ → Bool
 allId [] = true

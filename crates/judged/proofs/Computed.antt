@@ -8,6 +8,8 @@ use Rattle.text.specs.Texts.{part}
 use Rattle.utf8.specs.Utf8.{lies, dueAfter, wellFormed, validUtf8}
 use Rattle.white_space.specs.WhiteSpace.{beginsWith, blankAt, blanks, allWhite, keptOf}
 use Rattle.number.specs.Decimal.{isDigit, allDigits, value, numberFrom, digitsBelow, unsigned, parseBelow, parseSigned}
+use Rattle.real.specs.Real.{digitsIn}
+use Rattle.timescale.specs.Units.{parseUnit}
 use Rattle.idcode.specs.Id.{parseId, isIdByte, allId, idTail, sumFrom}
 use Rattle.scope.specs.Index.{padded, upToByte, parseInside, parseIndex}
 use Rattle.scope.specs.Types.{parseScopeType, parseVarType}
@@ -20,5 +22,5 @@ abbrev pub computed : List ℕ × ℕ → List ℕ × ℕ
 computed p = (p .0, answered (p .0))
 
 pub holds : map computed judged ≡ judged
-unfolding nextFrom isGood found kindOf run lookup isAscii skipped gap word after byteRead endRead token wordHere wordToken isBlank equal has starts part validUtf8 wellFormed dueAfter lies beginsWith blankAt blanks allWhite keptOf parseBelow unsigned digitsBelow numberFrom allDigits value isDigit parseSigned parseId isIdByte allId idTail sumFrom padded upToByte parseInside parseIndex parseScopeType parseVarType
+unfolding nextFrom isGood found kindOf run lookup isAscii digitsIn parseUnit skipped gap word after byteRead endRead token wordHere wordToken isBlank equal has starts part validUtf8 wellFormed dueAfter lies beginsWith blankAt blanks allWhite keptOf parseBelow unsigned digitsBelow numberFrom allDigits value isDigit parseSigned parseId isIdByte allId idTail sumFrom padded upToByte parseInside parseIndex parseScopeType parseVarType
 holds = refl

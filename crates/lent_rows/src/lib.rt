@@ -29,6 +29,17 @@ pub struct HeaderRow {
 // Words of a flat table of the most rows.
 const TABLE: usize = 40960;
 
+// Reads the header that begins at the cursor: as `read_header` with a table of as many rows, at most 4,096.
+pub fn read_rows(input: &[u8], c: Cursor, rows: &mut [HeaderRow]) -> HeaderAnswer
+    ensures { λ r. ⌜ (r ≡ answerOf (headerIn (now (input .entry)) c (length (now (rows .entry)))))
+        × (now (rows .exit) ≡ placed (headerIn (now (input .entry)) c (length (now (rows .entry))) .rows) (now (rows .entry))) ⌝ }
+{
+    let mut flat = [0u64; TABLE];
+    let a = read_flat(input, c, &mut flat, rows.len());
+    fill(&flat, rows, a.count);
+    a
+}
+
 // Row `i` of a flat table, as a struct.
 fn struct_at(words: &[u64], i: usize) -> HeaderRow
     ensures { λ r. ⌜ r ≡ structOf (rowAt (now (words .entry)) i) ⌝ }
@@ -71,15 +82,4 @@ fn read_flat(input: &[u8], c: Cursor, flat: &mut [u64], n: usize) -> HeaderAnswe
 {
     let room = text::least(n, flat.len() / rows::WORDS);
     header::read_header(input, c, &mut flat[..rows::WORDS * room])
-}
-
-// Reads the header that begins at the cursor: as `read_header` with a table of as many rows, at most 4,096.
-pub fn read_rows(input: &[u8], c: Cursor, rows: &mut [HeaderRow]) -> HeaderAnswer
-    ensures { λ r. ⌜ (r ≡ answerOf (headerIn (now (input .entry)) c (length (now (rows .entry)))))
-        × (now (rows .exit) ≡ placed (headerIn (now (input .entry)) c (length (now (rows .entry))) .rows) (now (rows .entry))) ⌝ }
-{
-    let mut flat = [0u64; TABLE];
-    let a = read_flat(input, c, &mut flat, rows.len());
-    fill(&flat, rows, a.count);
-    a
 }

@@ -10,9 +10,9 @@ use lib.ListN.{length, length-append, length-map, length-replicate}
 use Rattle.emit.specs.Put.{concat, stored}
 use Rattle.emit.proofs.Storing.{total-is, fits-yes, fits-no, runs, lay-none, lay-done}
 use Rattle.widen.specs.Widen.{missing, widened}
-use Rattle.listing.specs.declared.changes.Change.{Change}
-use Rattle.listing.specs.declared.changes.ChangeKind.{ChangeKind}
-use Rattle.listing.specs.declared.changes.Since.{Since}
+use Rattle.change.specs.declared.Change.{Change}
+use Rattle.change.specs.declared.ChangeKind.{ChangeKind}
+use Rattle.change.specs.declared.Since.{Since}
 use Rattle.number.specs.Decimal.{decimalOf}
 use Rattle.text.specs.Bytes.{bytes}
 use Rattle.text.specs.Texts.{part, putAnswer, putBytes}

@@ -9,8 +9,8 @@ use borrow.Rule.Slice.PartMut.{putMid}
 use lib.ListN.{length, take, drop, length-append}
 use Rattle.emit.specs.Put.{concat, stored}
 use Rattle.emit.proofs.Storing.{stored-none, stored-next, stored-length, part-put, part-none}
-use Rattle.listing.specs.Rows.{changeAt}
-use Rattle.listing.specs.declared.changes.Change.{Change}
+use Rattle.change.specs.Rows.{changeAt}
+use Rattle.change.specs.declared.Change.{Change}
 use Rattle.text.specs.declared.Placed.{Placed}
 use Rattle.lines.specs.Lines.{changeLine, linesFrom, fitting, put, answerOf, filled}
 use Rattle.lines.specs.declared.Lines.{Lines}

@@ -1,19 +1,29 @@
--- The lines that the programs print.
+-- The lines that the programs print, and the limits that both keep.
 use Prim.Native.Nat.{ℕ, zero, suc, _+_, _-_}
 use mathlib.Core.Bool.{cond}
 use mathlib.Core.List.{List, [], _∷_, _++_}
 use lib.Dec.{leb}
 use lib.ListN.{length, drop}
 use Rattle.emit.specs.Put.{concat}
-use Rattle.listing.specs.Rows.{changeAt}
+use Rattle.change.specs.Rows.{changeAt}
 use Rattle.widen.specs.Widen.{widened}
-use Rattle.listing.specs.declared.changes.Change.{Change}
-use Rattle.listing.specs.declared.changes.ChangeKind.{ChangeKind}
-use Rattle.listing.specs.declared.changes.Since.{Since}
+use Rattle.change.specs.declared.Change.{Change}
+use Rattle.change.specs.declared.ChangeKind.{ChangeKind}
+use Rattle.change.specs.declared.Since.{Since}
 use Rattle.number.specs.Decimal.{decimalOf}
 use Rattle.text.specs.Bytes.{bytes}
 use Rattle.text.specs.Texts.{part}
 use Rattle.lines.specs.declared.Lines.{Lines}
+
+-- the longest dump that is taken, and the most rows of its header
+abbrev pub taken : ℕ
+taken = 65536
+
+abbrev pub headerRows : ℕ
+headerRows = 256
+
+abbrev pub longLine : List ℕ
+longLine = bytes "input too long\n"
 
 abbrev pub timeText : Since → List ℕ
 timeText Since.None = bytes "-"

@@ -1,5 +1,5 @@
-// The lines that the programs print: the changes of a variable, its full listing, a refusal. A line is put whole where it has room, else
-// not at all.
+// The lines that the programs print: the changes of a variable, its full listing, a refusal, an input over the limit. A line is put whole
+// where it has room, else not at all. And the limits that both programs keep.
 use listing::Change;
 use listing::ChangeKind;
 use listing::Since;
@@ -15,7 +15,12 @@ ghost use Rattle.text.specs.Bytes.{bytes};
 ghost use Rattle.text.specs.Texts.{spelled, putAnswer, putBytes};
 ghost use Rattle.value.specs.Values.{lower, filledWith};
 ghost use Rattle.value.specs.declared.Value.{Value};
-ghost use Rattle.lines.specs.Lines.{timeText, changeLine, fullLine, refusedLine, put as putLines, answerOf, filled};
+ghost use Rattle.lines.specs.Lines.{timeText, changeLine, fullLine, refusedLine, longLine, put as putLines, answerOf, filled};
+
+// The longest dump that the programs take, and the most rows of its header.
+pub const TAKEN: usize = 65536;
+
+pub const HEADER_ROWS: usize = 256;
 
 // The next row to print, and how many bytes the lines before it have.
 pub struct Lines {
@@ -128,6 +133,13 @@ pub fn put_refused(number: u64, line: u64, out: &mut [u8]) -> Placed
         b"\n",
         out,
     )
+}
+
+// `input too long`.
+pub fn put_long(out: &mut [u8]) -> Placed
+    ensures { λ r. ⌜ (r ≡ putAnswer longLine (now (out .entry))) × (now (out .exit) ≡ putBytes longLine (now (out .entry))) ⌝ }
+{
+    text::put_text(b"input too long\n", out)
 }
 
 // A line whose value is a text.

@@ -1,13 +1,16 @@
 -- What a listing holds: with enough room every change of the code up to the first refusal or the end, once, in file order, with the last
--- timestamp read since the start, or none; else as many as there is room for.
-use Prim.Native.Nat.{ℕ, _+_, _*_, _/_, _≤_, _<_}
+-- timestamp read before it, the given one until one is read; else as many as there is room for.
+use Prim.Native.Nat.{ℕ, zero, suc, _+_, _≤_, _<_}
 use mathlib.Core.Path.{_≡_, refl, sym, ap, _∙_}
 use mathlib.Core.List.{List, [], _∷_, _++_, append-assoc, append-nil}
 use native.Mathlib.Omega.{arith}
-use borrow.Author.Tests.{le-leb, lt-leb, leb-true, leb-false, eq-eqb}
-use lib.Dec.{eqb, leb}
-use lib.ListN.{length, getD, take, drop, length-append, length-map, length-take}
-use lib.Seq.{drop-at, getD-at}
+use borrow.Author.Tests.{eq-eqb}
+use lib.Dec.{eqb}
+use lib.ListN.{length, getD, take, drop, length-append, length-map, length-take, drop-of-length-le}
+use lib.Seq.{take-at, take-all, drop-at, getD-at}
+use Rattle.change.specs.declared.Change.{Change}
+use Rattle.change.specs.declared.ChangeKind.{ChangeKind}
+use Rattle.change.specs.declared.Since.{Since}
 use Rattle.command.specs.declared.Command.{Command}
 use Rattle.command.specs.declared.Refusal.{Refusal}
 use Rattle.idcode.specs.declared.IdCode.{IdCode}
@@ -18,65 +21,38 @@ use Rattle.text.proofs.Lists.{by-test}
 use Rattle.text.specs.declared.Text.{Text}
 use Rattle.token.specs.Read.{bit}
 use Rattle.token.specs.declared.Cursor.{Cursor}
-use Rattle.listing.specs.Listing.{Role, time, change, other, roleOf, Entry, entries, sinceAfter, stopOf, lastOf, rowsIn, beyond, roomed, listOf, filled}
-use Rattle.listing.specs.Rows.{changeAt, wordsOf}
+use Rattle.list_step.specs.Step.{Role, time, change, other, roleOf}
+use Rattle.listing.specs.Listing.{Entry, entries, sinceAfter, stopOf, lastOf, timeOf, rowsIn, cut, listIn}
 use Rattle.listing.specs.declared.Ended.{Ended}
-use Rattle.listing.specs.declared.changes.Change.{Change}
-use Rattle.listing.specs.declared.changes.ChangeKind.{ChangeKind}
-use Rattle.listing.specs.declared.changes.Since.{Since}
-use Rattle.listing.proofs.Listed.{ahead, ahead-first, ahead-refused, ahead-done, stop-step, last-step, stop-refused, stop-done, rows-join, froms, froms-join}
-use Rattle.listing.proofs.Table.{all-length, row-at}
+use Rattle.listing.proofs.Listed.{ahead, ahead-first, ahead-refused, ahead-done, stop-step, last-step, time-first, StopsAt, stop-refused, stop-done, rows-join}
 
--- every change of the code i from c on
-abbrev pub every : List ℕ → IdCode → Cursor → List Entry
-every s i c = ahead s i c Since.None
+pub rows-take : (n : ℕ) (es : List Entry) → rowsIn (take n es) ≡ take n (rowsIn es)
+rows-take zero es = refl
+rows-take (suc n) [] = refl
+rows-take (suc n) (e ∷ es) = ap (λ (l : List Change). e .row ∷ l) (rows-take n es)
 
 -- ---- by room
-module _ (s : List ℕ) (c : Cursor) (i : IdCode) (table : List ℕ) where
+module _ (s : List ℕ) (c : Cursor) (t : Since) (i : IdCode) (room : ℕ) where
   abbrev all : List Entry
-  all = every s i c
+  all = ahead s i c t
 
-  abbrev cap : ℕ
-  cap = length table / 6
+  -- always the first of them, as many as have room
+  pub firsts : listIn s c t i room .rows ≡ take room (rowsIn all)
+  unfolding listIn
+  firsts = go (drop room all) ∙ rows-take room all
+    where
+      go : (r : List Entry) → cut (take room all) r (stopOf (commands s c)) (lastOf (commands s c)) (timeOf s c t (commands s c)) .rows ≡ rowsIn (take room all)
+      go [] = refl
+      go (e ∷ r) = refl
+
+  pub rows-fit : length (listIn s c t i room .rows) ≤ room
+  rows-fit = rw firsts (omega (arith, length-take room (rowsIn all)))
 
   -- enough room: all of them, and it ends as reading stops
-  pub complete : length all ≤ cap
-      → listOf s c i table ≡ record { rows = rowsIn all; ended = stopOf (commands s c); cursor = lastOf (commands s c) }
-  unfolding listOf roomed
-  complete h = rw (le-leb (length all) cap h)
-
-  -- too little: the first of them, as many as have room, and 24 with the cursor before the next
-  pub incomplete : cap < length all
-      → listOf s c i table
-      ≡ record {
-        rows = take cap (rowsIn all);
-        ended = Ended.Refused Refusal.ListFull (beyond cap all (lastOf (commands s c)) .line);
-        cursor = beyond cap all (lastOf (commands s c));
-      }
-  unfolding listOf roomed
-  incomplete h = rw (lt-leb (length all) cap h)
-
-  -- the rows always have room
-  pub rows-fit : length (listOf s c i table .rows) ≤ cap
-  rows-fit =
-      let n : length (rowsIn all) ≡ length all = length-map all (λ (e : Entry). e .row) in
-      by-test (leb (length all) cap)
-      (λ e.
-      let h : length all ≤ cap = leb-true _ _ e in
-      rw (complete h) (omega arith))
-      (λ e.
-      let h : cap < length all = leb-false _ _ e in
-      rw (incomplete h) (omega (arith, length-take cap (rowsIn all))))
-
-  -- row j of the table afterwards is the j-th of them, and the words after them are as they were
-  pub row-is : (j : ℕ) → j < length (listOf s c i table .rows)
-      → changeAt (filled (listOf s c i table .rows) table) j ≡ getD (listOf s c i table .rows) j Change.None
-  row-is j h = row-at (listOf s c i table .rows) table j h
-
-  pub rest-kept : let rs : List Change = listOf s c i table .rows in drop (6 * length rs) (filled rs table) ≡ drop (6 * length rs) table
-  rest-kept =
-      let rs : List Change = listOf s c i table .rows in
-      drop-at (wordsOf rs) (drop (6 * length rs) table) (6 * length rs) (all-length rs)
+  pub complete : length all ≤ room
+      → listIn s c t i room ≡ record { rows = rowsIn all; ended = stopOf (commands s c); cursor = lastOf (commands s c); since = timeOf s c t (commands s c) }
+  unfolding listIn
+  complete h = rw (take-all room all h, drop-of-length-le all h)
 
 -- ---- by the commands that were read: what they are to a listing, from one cursor to another
 abbrev pub Way : List ℕ → Cursor → List Role → Cursor → Type 0
@@ -116,16 +92,22 @@ way-ahead s i c e t (x ∷ xs) w =
       length-append here (r .0) ∙ rw (entries-count i c t (d .line) x, r .2),
     )
 
-way-stop : (s : List ℕ) (c e : Cursor) (xs : List Role) → Way s c xs e
-    → (stopOf (commands s c) ≡ stopOf (commands s e)) × (lastOf (commands s c) ≡ lastOf (commands s e))
-way-stop s c e [] w = (ap (λ (x : Cursor). stopOf (commands s x)) w, ap (λ (x : Cursor). lastOf (commands s x)) w)
-way-stop s c e (x ∷ xs) w =
-    let r = way-stop s (w .1) e xs (w .4) in
-    (stop-step s c (w .1) (w .0) (w .2) ∙ r .0, last-step s c (w .1) (w .0) (w .2) ∙ r .1)
+-- reading stops as it does from the way's end
+way-stop : (s : List ℕ) (c e : Cursor) (t : Since) (xs : List Role) → Way s c xs e
+    → (stopOf (commands s c) ≡ stopOf (commands s e))
+    × (lastOf (commands s c) ≡ lastOf (commands s e))
+    × (timeOf s c t (commands s c) ≡ timeOf s e (lastTime t xs) (commands s e))
+way-stop s c e t [] w =
+    (ap (λ (x : Cursor). stopOf (commands s x)) w, ap (λ (x : Cursor). lastOf (commands s x)) w, ap (λ (x : Cursor). timeOf s x t (commands s x)) w)
+way-stop s c e t (x ∷ xs) w =
+    let d : Cursor = w .1 in
+    let r = way-stop s d e (sinceAfter t x) xs (w .4) in
+    let first : timeOf s c t (commands s c) ≡ timeOf s d (sinceAfter t x) (commands s d) = rw (w .3) at (time-first s c d (w .0) (w .2) t) in
+    (stop-step s c d (w .0) (w .2) ∙ r .0, last-step s c d (w .0) (w .2) ∙ r .1, first ∙ r .2)
 
-module _ (s : List ℕ) (i : IdCode) (c d : Cursor) (xs : List Role) (w : Way s c xs d) where
+module _ (s : List ℕ) (i : IdCode) (c d : Cursor) (t : Since) (xs : List Role) (w : Way s c xs d) where
   abbrev since : Since
-  since = lastTime Since.None xs
+  since = lastTime t xs
 
   -- the next command is a change of the code: its row stands after those of the changes before it, with the last time among them
   module _ (k : Command) (e : Cursor) (kind : ChangeKind) (v : Text) (q : nextFrom s d ≡ Next.Command k e) (r : roleOf s d k ≡ change i kind v) where
@@ -133,58 +115,54 @@ module _ (s : List ℕ) (i : IdCode) (c d : Cursor) (xs : List Role) (w : Way s 
     row = Change.Is since (e .line) kind v
 
     abbrev one : Entry
-    one = record { row = row; from = d }
+    one = record { row = row; from = d; since = since }
 
-    split : (made : List Entry) × (every s i c ≡ made ++ (one ∷ ahead s i e since)) × (length made ≡ countOf i xs)
+    split : (made : List Entry) × (ahead s i c t ≡ made ++ (one ∷ ahead s i e since)) × (length made ≡ countOf i xs)
     split =
-        let a = way-ahead s i c d Since.None xs w in
+        let a = way-ahead s i c d t xs w in
         let f : ahead s i d since ≡ one ∷ ahead s i e since = rw (r, eq-eqb (i .0) (i .0) refl) at (ahead-first s d e k q i since) in
         (a .0, a .1 ∙ ap (λ (x : List Entry). a .0 ++ x) f, a .2)
 
-    longer : countOf i xs < length (every s i c)
-    longer = rw (split .1) (omega (arith, length-append (split .0) (one ∷ ahead s i e since), split .2))
-
-    pub each-change : getD (rowsIn (every s i c)) (countOf i xs) Change.None ≡ row
+    pub each-change : getD (rowsIn (ahead s i c t)) (countOf i xs) Change.None ≡ row
     each-change =
         let m : length (rowsIn (split .0)) ≡ countOf i xs = length-map (split .0) (λ (x : Entry). x .row) ∙ split .2 in
         rw (split .1, rows-join (split .0) (one ∷ ahead s i e since)) (getD-at (rowsIn (split .0)) row (rowsIn (ahead s i e since)) Change.None (countOf i xs) m)
 
-    -- and with enough room the table has it there
-    pub listed-there : (table : List ℕ) → length (every s i c) ≤ length table / 6
-        → changeAt (filled (listOf s c i table .rows) table) (countOf i xs) ≡ row
-    listed-there table h =
-        let m : length (rowsIn (every s i c)) ≡ length (every s i c) = length-map (every s i c) (λ (x : Entry). x .row) in
-        rw (complete s c i table h) (row-at (rowsIn (every s i c)) table (countOf i xs) (omega (arith, longer)) ∙ each-change)
-
-    -- where it finds no row: 24, with the cursor as it stood before it
-    pub full-there : (table : List ℕ) → countOf i xs ≡ length table / 6
-        → (listOf s c i table .ended ≡ Ended.Refused Refusal.ListFull (d .line)) × (listOf s c i table .cursor ≡ d)
-    unfolding beyond
-    full-there table h =
-        let m : length (froms (split .0)) ≡ length table / 6 = length-map (split .0) (λ (x : Entry). x .from) ∙ split .2 ∙ h in
-        let at : beyond (length table / 6) (every s i c) (lastOf (commands s c)) ≡ d =
-        rw (split .1, froms-join (split .0) (one ∷ ahead s i e since))
-        (getD-at (froms (split .0)) d (froms (ahead s i e since)) (lastOf (commands s c)) (length table / 6) m) in
-        rw (incomplete s c i table (omega (arith, longer)), at) (refl, refl)
+    -- where it finds no row: 24, with the cursor and the time as they stood before it
+    pub full-there :
+        listIn s c t i (countOf i xs)
+        ≡ record {
+          rows = take (countOf i xs) (rowsIn (ahead s i c t));
+          ended = Ended.Refused Refusal.ListFull (d .line);
+          cursor = d;
+          since = since;
+        }
+    unfolding listIn
+    full-there =
+        let rest : List Entry = one ∷ ahead s i e since in
+        let n : ℕ = countOf i xs in
+        rw (← rows-take n (ahead s i c t), split .1, take-at (split .0) rest n (split .2), drop-at (split .0) rest n (split .2))
 
   -- reading stops there, and there is room: as many rows as changes, and it ends so
-  module _ (table : List ℕ) (h : countOf i xs ≤ length table / 6) where
+  module _ (room : ℕ) (h : countOf i xs ≤ room) where
     abbrev Ends : Ended → Cursor → Type 0
     Ends e f =
-        (length (listOf s c i table .rows) ≡ countOf i xs) × (listOf s c i table .ended ≡ e) × (listOf s c i table .cursor ≡ f)
+        (length (listIn s c t i room .rows) ≡ countOf i xs)
+        × (listIn s c t i room .ended ≡ e)
+        × (listIn s c t i room .cursor ≡ f)
+        × (listIn s c t i room .since ≡ since)
 
-    ends : (e : Ended) (f : Cursor) → ahead s i d since ≡ [] → (stopOf (commands s d) ≡ e) × (lastOf (commands s d) ≡ f) → Ends e f
+    ends : (e : Ended) (f : Cursor) → ahead s i d since ≡ [] → StopsAt s d f since e → Ends e f
     ends e f a x =
-        let g = way-ahead s i c d Since.None xs w in
-        let same : every s i c ≡ g .0 = g .1 ∙ rw a (append-nil (g .0)) in
-        let n : length (every s i c) ≡ countOf i xs = rw same (g .2) in
-        let m : length (rowsIn (every s i c)) ≡ length (every s i c) = length-map (every s i c) (λ (y : Entry). y .row) in
-        let room : length (every s i c) ≤ length table / 6 = omega arith in
-        let z = way-stop s c d xs w in
-        rw (complete s c i table room) (m ∙ n, z .0 ∙ x .0, z .1 ∙ x .1)
+        let g = way-ahead s i c d t xs w in
+        let same : ahead s i c t ≡ g .0 = g .1 ∙ rw a (append-nil (g .0)) in
+        let n : length (ahead s i c t) ≡ countOf i xs = rw same (g .2) in
+        let m : length (rowsIn (ahead s i c t)) ≡ length (ahead s i c t) = length-map (ahead s i c t) (λ (y : Entry). y .row) in
+        let z = way-stop s c d t xs w in
+        rw (complete s c t i room (omega arith)) (m ∙ n, z .0 ∙ x .0, z .1 ∙ x .1, z .2 ∙ x .2)
 
     pub ends-refused : (e : Refusal) (n : ℕ) (f : Cursor) → nextFrom s d ≡ Next.Refused e n f → Ends (Ended.Refused e n) f
-    ends-refused e n f q = ends _ _ (ahead-refused s i d f since e n q) (stop-refused s d f e n q)
+    ends-refused e n f q = ends _ _ (ahead-refused s i d f since e n q) (stop-refused s d f since e n q)
 
     pub ends-whole : (f : Cursor) → nextFrom s d ≡ Next.Done f → Ends Ended.Whole f
-    ends-whole f q = ends _ _ (ahead-done s i d f since q) (stop-done s d f q)
+    ends-whole f q = ends _ _ (ahead-done s i d f since q) (stop-done s d f since q)

@@ -17,9 +17,9 @@ use Rattle.token.specs.Read.{Valid}
 use Rattle.token.specs.declared.Cursor.{Cursor}
 use Rattle.listing.specs.Listing.{Passes, Held}
 use Rattle.listing.specs.declared.Stand.{Stand}
-use Rattle.listing.specs.declared.Seen.{Seen}
-use Rattle.listing.specs.declared.changes.Since.{Since}
-use Rattle.listing.proofs.Roles.{Read}
+use Rattle.list_step.specs.declared.Seen.{Seen}
+use Rattle.change.specs.declared.Since.{Since}
+use Rattle.list_step.proofs.Roles.{Read}
 use Rattle.listing.proofs.Listed.{passes-start, passes-read, passes-on}
 use Rattle.text.specs.Texts.{limit}
 

@@ -1,84 +1,35 @@
 -- The listing of a code: every change of it among the commands read from a cursor, up to the first refusal or the end, in file order,
--- each with the last timestamp read since the start.
-use Prim.Native.Nat.{ℕ, _*_, _/_, _≤_, _<_}
+-- each with the last timestamp read before it: the one that was given, until one is read.
+use Prim.Native.Nat.{ℕ, _/_, _≤_, _<_}
 use mathlib.Core.Path.{_≡_}
 use mathlib.Core.Bool.{cond}
 use mathlib.Core.List.{List, [], _∷_, _++_, map}
-use lib.Dec.{eqb, leb}
-use lib.ListN.{length, getD, take, drop}
+use lib.Dec.{eqb}
+use lib.ListN.{length, take, drop}
 use Rattle.command.specs.declared.Command.{Command}
 use Rattle.command.specs.declared.Refusal.{Refusal}
-use Rattle.command.specs.declared.Time.{Time}
 use Rattle.idcode.specs.declared.IdCode.{IdCode}
 use Rattle.parser.specs.All.{Commands, command, stop, finish, commands}
-use Rattle.parser_part.specs.declared.Next.{Next}
-use Rattle.text.specs.declared.Text.{Text}
 use Rattle.fast.specs.Fast.{Reads}
-use Rattle.token.specs.Read.{skipped, Valid}
+use Rattle.token.specs.Read.{Valid}
 use Rattle.token.specs.declared.Cursor.{Cursor}
-use Rattle.listing.specs.Rows.{wordsOf}
+use Rattle.list_step.specs.Step.{Role, time, change, other, roleOf}
 use Rattle.listing.specs.declared.Ended.{Ended}
 use Rattle.listing.specs.declared.ListAnswer.{ListAnswer}
-use Rattle.listing.specs.declared.Step.{Step}
-use Rattle.listing.specs.declared.Seen.{Seen}
-use Rattle.listing.specs.declared.changes.Change.{Change}
-use Rattle.listing.specs.declared.changes.ChangeKind.{ChangeKind}
-use Rattle.listing.specs.declared.changes.Since.{Since}
+use Rattle.change.specs.declared.Change.{Change}
+use Rattle.change.specs.declared.Since.{Since}
 
--- what a command is to a listing: a time, a change with the kind and the place of its value, or nothing
-pub data Role : Type 0 where
-  time : Time → Role
-  change : IdCode → ChangeKind → Text → Role
-  other : Role
-
--- a scalar's value is the command's first byte, after the blanks that it was read over
-abbrev pub first : List ℕ → Cursor → Text
-first s c = record { start = skipped s c .place; len = 1 }
-
--- the command k, read from c
-abbrev pub roleOf : List ℕ → Cursor → Command → Role
-roleOf s c (Command.Comment t) = other
-roleOf s c (Command.Date t) = other
-roleOf s c (Command.Version t) = other
-roleOf s c (Command.Timescale n u) = other
-roleOf s c (Command.ScopeDef k t) = other
-roleOf s c Command.Upscope = other
-roleOf s c (Command.VarDef k n i t x) = other
-roleOf s c Command.Enddefinitions = other
-roleOf s c (Command.Timestamp t) = time t
-roleOf s c (Command.ChangeScalar i v) = change i ChangeKind.Scalar (first s c)
-roleOf s c (Command.ChangeVector i t) = change i ChangeKind.Vector t
-roleOf s c (Command.ChangeReal i t) = change i ChangeKind.Real t
-roleOf s c (Command.ChangeString i t) = change i ChangeKind.String t
-roleOf s c (Command.Begin k) = other
-roleOf s c (Command.End k) = other
-
--- the same to the listing of the code i
-abbrev pub ofCode : IdCode → Role → Seen
-ofCode i (time u) = Seen.Time u
-ofCode i (change j k v) = cond (eqb (j .0) (i .0)) (Seen.Change k v) Seen.Other
-ofCode i other = Seen.Other
-
--- what it sees next, with the cursor d after it
-abbrev pub stepOf : Seen → Cursor → Step
-stepOf (Seen.Time u) d = Step.Time d u
-stepOf (Seen.Change k v) d = Step.Change d k v
-stepOf Seen.Other d = Step.Other d
-
-abbrev pub stepFrom : List ℕ → IdCode → Cursor → Next → Step
-stepFrom s i c (Next.Command k d) = stepOf (ofCode i (roleOf s c k)) d
-stepFrom s i c (Next.Refused e n d) = Step.Refused d e n
-stepFrom s i c (Next.Done d) = Step.Done d
-
--- a change, and the cursor as it stood before it
+-- a change; and as they stood before it, the cursor and the last time
 pub record Entry : Type 0 where
   pub row : Change
   pub from : Cursor
+  pub since : Since
 
 -- the entries that a command gives: one, if it is a change of the code; and the last time after it
 abbrev pub entries : IdCode → Cursor → Since → ℕ → Role → List Entry
 entries i c t line (time u) = []
-entries i c t line (change j k v) = cond (eqb (j .0) (i .0)) (record { row = Change.Is t line k v; from = c } ∷ []) []
+entries i c t line (change j k v) =
+    cond (eqb (j .0) (i .0)) (record { row = Change.Is t line k v; from = c; since = t } ∷ []) []
 entries i c t line other = []
 
 abbrev pub sinceAfter : Since → Role → Since
@@ -92,7 +43,7 @@ changes s i c t (command k d more) = entries i c t (d .line) (roleOf s c k) ++ c
 changes s i c t (stop e n d) = []
 changes s i c t (finish d) = []
 
--- how reading stops
+-- how reading stops, where, and the last time then
 unfoldable pub stopOf : Commands → Ended
 stopOf (command k d more) = stopOf more
 stopOf (stop e n d) = Ended.Refused e n
@@ -103,36 +54,42 @@ lastOf (command k d more) = lastOf more
 lastOf (stop e n d) = d
 lastOf (finish d) = d
 
+unfoldable pub timeOf : List ℕ → Cursor → Since → Commands → Since
+timeOf s c t (command k d more) = timeOf s d (sinceAfter t (roleOf s c k)) more
+timeOf s c t (stop e n d) = t
+timeOf s c t (finish d) = t
+
 pub record Outcome : Type 0 where
   pub rows : List Change
   pub ended : Ended
   pub cursor : Cursor
+  pub since : Since
 
 abbrev pub rowsIn : List Entry → List Change
 rowsIn es = map (λ (e : Entry). e .row) es
 
--- the first entry that finds no row
-unfoldable pub beyond : ℕ → List Entry → Cursor → Cursor
-beyond n es d = getD (map (λ (e : Entry). e .from) es) n d
+-- the changes that have rows, and those that have none: at the first of these 24, with the cursor and the time as they stood before it
+abbrev pub cut : List Entry → List Entry → Ended → Cursor → Since → Outcome
+cut made [] e d u = record { rows = rowsIn made; ended = e; cursor = d; since = u }
+cut made (x ∷ more) e d u =
+    record { rows = rowsIn made; ended = Ended.Refused Refusal.ListFull (x .from .line); cursor = x .from; since = x .since }
 
--- all of them where they have room; else as many as there is room for, and 24 with the cursor before the next one
-unfoldable pub roomed : ℕ → List Entry → Ended → Cursor → Outcome
-roomed cap es e d =
-    cond (leb (length es) cap)
-    (record { rows = rowsIn es; ended = e; cursor = d })
-    (record { rows = take cap (rowsIn es); ended = Ended.Refused Refusal.ListFull (beyond cap es d .line); cursor = beyond cap es d })
-
-unfoldable pub listOf : List ℕ → Cursor → IdCode → List ℕ → Outcome
-listOf s c i table =
+-- from c, where t was the last time, into so many rows
+unfoldable pub listIn : List ℕ → Cursor → Since → IdCode → ℕ → Outcome
+listIn s c t i room =
     let cs : Commands = commands s c in
-    roomed (length table / 6) (changes s i c Since.None cs) (stopOf cs) (lastOf cs)
+    let all : List Entry = changes s i c t cs in
+    cut (take room all) (drop room all) (stopOf cs) (lastOf cs) (timeOf s c t cs)
+
+abbrev pub listOnOf : List ℕ → Cursor → Since → IdCode → List ℕ → Outcome
+listOnOf s c t i table = listIn s c t i (length table / 6)
+
+-- where none was read before
+abbrev pub listOf : List ℕ → Cursor → IdCode → List ℕ → Outcome
+listOf s c i table = listOnOf s c Since.None i table
 
 abbrev pub answerOf : Outcome → ListAnswer
-answerOf o = record { cursor = o .cursor; count = length (o .rows); ended = o .ended }
-
--- the table then: the rows' words, and the rest as it was
-abbrev pub filled : List Change → List ℕ → List ℕ
-filled rs table = wordsOf rs ++ drop (6 * length rs) table
+answerOf o = record { cursor = o .cursor; count = length (o .rows); ended = o .ended; since = o .since }
 
 -- ---- a run over commands that are no changes of the code
 -- what is listed from c on, where t was the last time, is what is listed from d on, where u is it
@@ -140,6 +97,7 @@ pub record Passes (s : List ℕ) (i : IdCode) (c : Cursor) (t : Since) (d : Curs
   pub same : changes s i c t (commands s c) ≡ changes s i d u (commands s d)
   pub stops : stopOf (commands s c) ≡ stopOf (commands s d)
   pub last : lastOf (commands s c) ≡ lastOf (commands s d)
+  pub time : timeOf s c t (commands s c) ≡ timeOf s d u (commands s d)
   pub valid : Valid s d
   pub past : c .place ≤ d .place
 

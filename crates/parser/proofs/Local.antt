@@ -16,7 +16,7 @@ use Rattle.command.specs.Refusals.{numberOf}
 use Rattle.text.specs.declared.Text.{Text}
 use Rattle.text.proofs.Lists.{by-test}
 use Rattle.text.proofs.Equal.{starts-long, starts-more}
-use Rattle.token.specs.Read.{Bound, most, values, passed, valuesIn, Valid, byteRead, after, rest, gap, word, skipped, wordToken, wordHere, token, textTo, textFrom}
+use Rattle.token.specs.Read.{Bound, most, values, unlimited, passed, valuesIn, Valid, byteRead, after, rest, gap, word, skipped, wordToken, wordHere, token, textTo, textFrom}
 use Rattle.parser_part.specs.Plan.{Plan, answer, begins, ends, refuse, aToken, aText, andThen, run, kindOf, kindPlan}
 use Rattle.parser.specs.Next.{found, nextFrom, settled}
 use Rattle.token.specs.declared.Cursor.{Cursor}
@@ -77,6 +77,7 @@ values-same (b ∷ w) x h =
 passed-same : (n : Bound) (w x : List ℕ) → passed n w < length w → passed n (w ++ x) ≡ passed n w
 passed-same (most n) w x h = refl
 passed-same values w x h = values-same w x h
+passed-same unlimited w x h = absurd (omega arith)
 
 word-local : (r z : List ℕ) (c : Cursor) (n : Bound) → Found (wordToken (word r) r c n) ≡ true → wordToken (word (r ++ z)) (r ++ z) c n ≡ wordToken (word r) r c n
 word-local r z c n h =

@@ -35,7 +35,7 @@ use Rattle.command.specs.declared.Command.{Command}
 use Rattle.command.specs.declared.Open.{Open}
 use Rattle.command.specs.declared.Refusal.{Refusal}
 use Rattle.command.specs.declared.SimulationCommand.{SimulationCommand}
-use Rattle.token.specs.Read.{Bound, most, values, passed, Valid, byteRead, endRead, after, rest, gap, word, skipped, wordToken, wordHere, token, textTo, textFrom}
+use Rattle.token.specs.Read.{Bound, most, values, unlimited, passed, Valid, byteRead, endRead, after, rest, gap, word, skipped, wordToken, wordHere, token, textTo, textFrom}
 use Rattle.token.specs.declared.Cursor.{Cursor}
 use Rattle.token.specs.declared.Token.{Token}
 use Rattle.token.proofs.Tokens.{Within, Kept, token-kept, text-kept}
@@ -163,7 +163,7 @@ module _ (n : ℕ) (s : List ℕ) where
   timescale-same = tokens (most 8) (λ t w. judged (part s t) (tested (isAscii (part s t)) (unit-same (digitsIn (part s t)) (drop (length (digitsIn (part s t))) (part s t))) (refuses _)))
 
   scope-of : (k : ParsedScopeType) → Same (scopeOf k) (scopeOf k)
-  scope-of (ParsedScopeType.Is k) = tokens (most limit) (λ t w. judged (part s t) (closing-same (Command.ScopeDef k t) w))
+  scope-of (ParsedScopeType.Is k) = tokens unlimited (λ t w. judged (part s t) (closing-same (Command.ScopeDef k t) w))
   scope-of ParsedScopeType.Invalid = refuses _
 
   -- a variable whose name is n bytes further on
@@ -182,7 +182,7 @@ module _ (n : ℕ) (s : List ℕ) where
   var-of : (k : ParsedVarType) → Same (varOf k) (varOf k)
   var-of (ParsedVarType.Is k) =
       tokens (most 32)
-      (λ t w. judged (part s t) (counted (parseBelow (2 ^ 32) (part s t)) (λ v. id-same (λ i. tokens (most limit) (λ r u. judged (part s r) (var-end _ u))))))
+      (λ t w. judged (part s t) (counted (parseBelow (2 ^ 32) (part s t)) (λ v. id-same (λ i. tokens unlimited (λ r u. judged (part s r) (var-end _ u))))))
   var-of ParsedVarType.Invalid = refuses _
 
   word-same : (w : Word) → Same (wordPlan w) (wordPlan w)
@@ -204,7 +204,7 @@ module _ (n : ℕ) (s : List ℕ) where
   kind-same (Kind.Scalar x) = id-same (λ i. answers (Command.ChangeScalar i x) tt)
   kind-same Kind.Vector = tokens values (λ t w. id-same (λ i. answers (Command.ChangeVector i t) w))
   kind-same Kind.Real = tokens (most 32) (λ t w. judged (part s t) (tested (isReal (part s t)) (id-same (λ i. answers (Command.ChangeReal i t) w)) (refuses _)))
-  kind-same Kind.Text = tokens (most limit) (λ t w. judged (part s t) (id-same (λ i. answers (Command.ChangeString i t) w)))
+  kind-same Kind.Text = tokens unlimited (λ t w. judged (part s t) (id-same (λ i. answers (Command.ChangeString i t) w)))
   kind-same Kind.Other = refuses _
 
 -- ---- what a plan answers: a command whose texts lie in the input, or a refusal with its cursor's line

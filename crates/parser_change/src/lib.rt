@@ -159,7 +159,7 @@ pub fn parse_string(input: &[u8], c: Cursor) -> Next
     requires { ⌜ Valid (now input) c ⌝ }
     ensures { λ r. ⌜ r ≡ run string (now (input .entry)) c ⌝ }
 {
-    let tok = parser_part::read_token_str(input, c, text::LIMIT);
+    let tok = parser_part::read_name(input, c);
     match tok {
         Token::Word(t, next) => string_id(input, next, t),
         Token::Refused(e, next) => Next::Refused(e, next.line, next),

@@ -175,7 +175,7 @@ fn scope_name(input: &[u8], c: Cursor, p: ParsedScopeType) -> Next
     let ParsedScopeType::Is(k) = p else {
         return Next::Refused(Refusal::InvalidScopeType, c.line, c);
     };
-    let tok = parser_part::read_token_str(input, c, text::LIMIT);
+    let tok = parser_part::read_name(input, c);
     match tok {
         Token::Word(t, next) => parser_part::read_command_end(input, next, Command::ScopeDef(k, t)),
         Token::Refused(e, next) => Next::Refused(e, next.line, next),
@@ -222,7 +222,7 @@ fn var_name(input: &[u8], c: Cursor, k: VarType, n: u32, i: IdCode) -> Next
     requires { ⌜ Valid (now input) c ⌝ }
     ensures { λ r. ⌜ r ≡ run (varName k n i) (now (input .entry)) c ⌝ }
 {
-    let tok = parser_part::read_token_str(input, c, text::LIMIT);
+    let tok = parser_part::read_name(input, c);
     match tok {
         Token::Word(t, next) => var_end(
             input,

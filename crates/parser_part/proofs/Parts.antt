@@ -1,6 +1,6 @@
 -- The parts that the code reads are the plans' own: on with what a part answers. Assumes nothing.
 use Prim.Native.Nat.{ℕ}
-use mathlib.Core.Path.{_≡_, refl, _∙_}
+use mathlib.Core.Path.{_≡_, refl, sym, ap, _∙_}
 use mathlib.Core.Bool.{cond}
 use mathlib.Core.List.{List}
 use Rattle.text.specs.Texts.{part}
@@ -13,7 +13,9 @@ use Rattle.idcode.specs.Id.{parseId}
 use Rattle.idcode.specs.declared.IdCode.{IdCode}
 use Rattle.idcode.specs.declared.Parsed.{Parsed}
 use Rattle.command.specs.declared.Refusal.{Refusal}
-use Rattle.token.specs.Read.{Bound, most, token, textFrom}
+use Rattle.text.specs.Texts.{limit}
+use Rattle.token.specs.Read.{Bound, most, unlimited, Valid, token, textFrom}
+use Rattle.token.proofs.Tokens.{no-limit}
 use Rattle.token.specs.declared.Cursor.{Cursor}
 use Rattle.token.specs.declared.Token.{Token}
 use Rattle.parser_part.specs.Plan.{Plan, refuse, aToken, aText, aWord, aNumber, anId, numbered, identified, refused, andThen, run, trimmedIn}
@@ -35,6 +37,15 @@ module _ (s : List ℕ) (c : Cursor) where
   pub run-token : (n : Bound) (f : Text → List ℕ → Plan) → run (aToken n f) s c ≡ andThen (λ t d. run (f t (part s t)) s d) (token s c n)
   unfolding run
   run-token n f = refl
+
+  -- a token without a limit is one with the input's
+  pub word-no-limit : Valid s c → wordFrom s c (most limit) ≡ wordFrom s c unlimited
+  unfolding wordFrom
+  word-no-limit v = ap (judged s) (sym (no-limit s c v))
+
+  pub run-no-limit : (f : Text → List ℕ → Plan) → Valid s c → run (aToken unlimited f) s c ≡ run (aToken (most limit) f) s c
+  unfolding run
+  run-no-limit f v = ap (andThen (λ t d. run (f t (part s t)) s d)) (no-limit s c v)
 
   pub run-text : (f : Text → List ℕ → Plan) → run (aText f) s c ≡ andThen (λ t d. run (f t (part s t)) s d) (textFrom s c)
   unfolding run

@@ -3,6 +3,7 @@ use Prim.Native.Nat.{ℕ}
 use mathlib.Core.Bool.{cond}
 use mathlib.Core.List.{List}
 use Rattle.text.specs.Bytes.{equal}
+use Rattle.command.specs.Refusals.{idRefusal}
 use Rattle.command.specs.Words.{endMark}
 use Rattle.text.specs.Texts.{part}
 use Rattle.utf8.specs.Utf8.{validUtf8}
@@ -15,7 +16,7 @@ use Rattle.command.specs.declared.Refusal.{Refusal}
 use Rattle.token.specs.Read.{Bound, most, token}
 use Rattle.token.specs.declared.Cursor.{Cursor}
 use Rattle.token.specs.declared.Token.{Token}
-use Rattle.parser_part.specs.Plan.{idRefusal, refused, trimmedIn}
+use Rattle.parser_part.specs.Plan.{refused, trimmedIn}
 use Rattle.parser_part.specs.declared.IdRead.{IdRead}
 use Rattle.parser_part.specs.declared.Next.{Next}
 use Rattle.parser_part.specs.declared.NumberRead.{NumberRead}

@@ -2,21 +2,21 @@
 use Prim.Native.Nat.{ℕ, _+_, _^_}
 use Prim.Native.String.{String}
 use mathlib.Core.Bool.{Bool, true, false, cond}
-use mathlib.Core.List.{List, [], _∷_}
+use mathlib.Core.List.{List, [], _∷_, _++_}
 use lib.Dec.{ltb}
 use lib.ListN.{length, drop}
 use Rattle.text.specs.Bytes.{bytes, equal, has, starts}
-use Rattle.text.specs.Texts.{limit, part}
+use Rattle.text.specs.Texts.{part}
 use Rattle.utf8.specs.Utf8.{validUtf8}
 use Rattle.white_space.specs.WhiteSpace.{trimmed}
 use Rattle.text.specs.declared.Text.{Text}
 use Rattle.number.specs.Decimal.{parseBelow}
 use Rattle.real.specs.Real.{digitsIn, isReal}
 use Rattle.number.specs.declared.Number.{Number}
+use Rattle.value.specs.Values.{values as valueTable}
 use Rattle.value.specs.declared.Value.{Value}
 use Rattle.idcode.specs.Id.{parseId}
 use Rattle.idcode.specs.declared.IdCode.{IdCode}
-use Rattle.idcode.specs.declared.InvalidIdCode.{InvalidIdCode}
 use Rattle.idcode.specs.declared.Parsed.{Parsed}
 use Rattle.timescale.specs.Units.{parseUnit}
 use Rattle.timescale.specs.declared.ParsedUnit.{ParsedUnit}
@@ -29,12 +29,13 @@ use Rattle.scope.specs.declared.ParsedVarType.{ParsedVarType}
 use Rattle.scope.specs.declared.ParsedIndex.{ParsedIndex}
 use Rattle.scope.specs.declared.ReferenceIndex.{ReferenceIndex}
 use Rattle.command.specs.Meaning.{Remark, comment, date, version}
+use Rattle.command.specs.Refusals.{idRefusal, unitRefusal, scopeTypeRefusal, varTypeRefusal, indexRefusal}
 use Rattle.command.specs.Words.{wordOf, endMark}
 use Rattle.command.specs.declared.Command.{Command}
 use Rattle.command.specs.declared.Open.{Open}
 use Rattle.command.specs.declared.Refusal.{Refusal}
 use Rattle.command.specs.declared.SimulationCommand.{SimulationCommand}
-use Rattle.token.specs.Read.{Bound, most, values, token, textFrom}
+use Rattle.token.specs.Read.{Bound, most, values, unlimited, token, textFrom}
 use Rattle.token.specs.declared.Cursor.{Cursor}
 use Rattle.token.specs.declared.Token.{Token}
 use Rattle.parser_part.specs.declared.Kind.{Kind}
@@ -76,10 +77,6 @@ run (aToken n f) s c = andThen (λ t d. run (f t (part s t)) s d) (token s c n)
 run (aText f) s c = andThen (λ t d. run (f t (part s t)) s d) (textFrom s c)
 
 -- ---- judging a part
--- no limit but the input's
-abbrev pub unlimited : Bound
-unlimited = most limit
-
 -- a token that must be UTF-8
 abbrev pub aWord : Bound → (Text → List ℕ → Plan) → Plan
 aWord n f = aToken n (λ t w. cond (validUtf8 w) (f t w) (refuse Refusal.InvalidUtf8))
@@ -91,11 +88,6 @@ numbered Number.Refused f = refuse Refusal.ParseIntError
 -- a number below the limit
 abbrev pub aNumber : ℕ → (ℕ → Plan) → Plan
 aNumber limit f = aWord (most 32) (λ t w. numbered (parseBelow limit w) f)
-
-abbrev pub idRefusal : InvalidIdCode → Refusal
-idRefusal InvalidIdCode.Empty = Refusal.IdEmpty
-idRefusal InvalidIdCode.InvalidChars = Refusal.IdInvalidChars
-idRefusal InvalidIdCode.TooLong = Refusal.IdTooLong
 
 abbrev pub identified : Parsed → (IdCode → Plan) → Plan
 identified (Parsed.Code i) f = f i
@@ -128,7 +120,7 @@ isAscii (b ∷ r) = cond (ltb b 128) (isAscii r) false
 
 abbrev pub inUnit : ℕ → ParsedUnit → Plan
 inUnit n (ParsedUnit.Is u) = closing (Command.Timescale n u)
-inUnit n ParsedUnit.Invalid = refuse Refusal.InvalidTimescaleUnit
+inUnit n ParsedUnit.Invalid = refuse unitRefusal
 
 abbrev pub scaled : List ℕ → List ℕ → Plan
 scaled q u = numbered (parseBelow (2 ^ 32) q) (λ n. inUnit n (parseUnit u))
@@ -140,11 +132,11 @@ unitIn q (b ∷ r) = scaled q (b ∷ r)
 abbrev pub timescale : Plan
 timescale =
     aWord (most 8)
-    (λ t w. cond (isAscii w) (unitIn (digitsIn w) (drop (length (digitsIn w)) w)) (refuse Refusal.InvalidTimescaleUnit))
+    (λ t w. cond (isAscii w) (unitIn (digitsIn w) (drop (length (digitsIn w)) w)) (refuse unitRefusal))
 
 abbrev pub scopeOf : ParsedScopeType → Plan
 scopeOf (ParsedScopeType.Is k) = aWord unlimited (λ t w. closing (Command.ScopeDef k t))
-scopeOf ParsedScopeType.Invalid = refuse Refusal.InvalidScopeType
+scopeOf ParsedScopeType.Invalid = refuse scopeTypeRefusal
 
 abbrev pub scope : Plan
 scope = aWord (most 32) (λ t w. scopeOf (parseScopeType w))
@@ -158,7 +150,7 @@ lastOf k e = cond (equal e endMark) (answer k) (refuse Refusal.ExpectedEndComman
 
 abbrev pub indexed : Var → ParsedIndex → Plan
 indexed v (ParsedIndex.Is x) = aWord (most 32) (λ t w. lastOf (varDef v x) w)
-indexed v ParsedIndex.Invalid = refuse Refusal.InvalidReferenceIndex
+indexed v ParsedIndex.Invalid = refuse indexRefusal
 
 abbrev pub afterName : Var → List ℕ → Plan
 afterName v w = cond (starts (bytes "[") w) (indexed v (parseIndex w)) (lastOf (varDef v ReferenceIndex.None) w)
@@ -176,7 +168,7 @@ varId k n = anId (λ i. varName k n i)
 
 abbrev pub varOf : ParsedVarType → Plan
 varOf (ParsedVarType.Is k) = aNumber (2 ^ 32) (λ n. varId k n)
-varOf ParsedVarType.Invalid = refuse Refusal.InvalidVarType
+varOf ParsedVarType.Invalid = refuse varTypeRefusal
 
 abbrev pub var : Plan
 var = aWord (most 32) (λ t w. varOf (parseVarType w))
@@ -216,10 +208,13 @@ abbrev pub string : Plan
 string = aWord unlimited (λ t w. anId (λ i. answer (Command.ChangeString i t)))
 
 -- what the first byte chooses: the row that has it
+abbrev pub scalars : List (String × Value) → List (String × Kind)
+scalars [] = []
+scalars (e ∷ r) = (e .0, Kind.Scalar (e .1)) ∷ scalars r
+
 abbrev pub kinds : List (String × Kind)
 kinds =
-    ("$", Kind.Dollar) ∷ ("#", Kind.Hash) ∷ ("0", Kind.Scalar Value.V0) ∷ ("1", Kind.Scalar Value.V1) ∷ ("xX", Kind.Scalar Value.X)
-    ∷ ("zZ", Kind.Scalar Value.Z) ∷ ("bB", Kind.Vector) ∷ ("rR", Kind.Real) ∷ ("sS", Kind.Text) ∷ []
+    ("$", Kind.Dollar) ∷ ("#", Kind.Hash) ∷ (scalars valueTable ++ (("bB", Kind.Vector) ∷ ("rR", Kind.Real) ∷ ("sS", Kind.Text) ∷ []))
 
 abbrev pub kindIn : List (String × Kind) → ℕ → Kind
 kindIn [] b = Kind.Other

@@ -4,7 +4,6 @@ pub mod word;
 use command::Command;
 use command::Refusal;
 use idcode::IdCode;
-use idcode::InvalidIdCode;
 use idcode::Parsed;
 use number::Number;
 use token::Cursor;
@@ -12,8 +11,8 @@ use token::Token;
 use value::Value;
 ghost use mathlib.Core.Path.{_≡_};
 ghost use Prim.Native.Nat.{_+_};
-ghost use Rattle.token.specs.Read.{Valid, most};
-ghost use Rattle.parser_part.specs.Plan.{run, closing, idRefusal};
+ghost use Rattle.token.specs.Read.{Valid, most, unlimited};
+ghost use Rattle.parser_part.specs.Plan.{run, closing};
 ghost use Rattle.parser_part.specs.Parts.{wordFrom, numberFrom, idFrom, numberAt, idAt};
 
 // What a command's first byte chooses.
@@ -62,6 +61,14 @@ pub fn read_token_str(input: &[u8], c: Cursor, limit: usize) -> Token
     }
 }
 
+// A name or a string: a token without a limit.
+pub fn read_name(input: &[u8], c: Cursor) -> Token
+    requires { ⌜ Valid (now input) c ⌝ }
+    ensures { λ r. ⌜ r ≡ wordFrom (now (input .entry)) c unlimited ⌝ }
+{
+    read_token_str(input, c, text::LIMIT)
+}
+
 // A number of at most `largest`.
 pub fn read_number(input: &[u8], c: Cursor, largest: u64) -> NumberRead
     requires { ⌜ Valid (now input) c ⌝ }
@@ -99,17 +106,7 @@ fn id_at(p: Parsed, c: Cursor) -> IdRead
 {
     match p {
         Parsed::Code(i) => IdRead::Is(i, c),
-        Parsed::Refused(e) => IdRead::Refused(id_refusal(e), c),
-    }
-}
-
-fn id_refusal(e: InvalidIdCode) -> Refusal
-    ensures { λ r. ⌜ r ≡ idRefusal e ⌝ }
-{
-    match e {
-        InvalidIdCode::Empty => Refusal::IdEmpty,
-        InvalidIdCode::InvalidChars => Refusal::IdInvalidChars,
-        InvalidIdCode::TooLong => Refusal::IdTooLong,
+        Parsed::Refused(e) => IdRead::Refused(Refusal::from_id(e), c),
     }
 }
 

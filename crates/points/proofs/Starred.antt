@@ -1,6 +1,5 @@
 -- Every starred point holds of the definitions: one statement, computed. Assumes nothing.
-use mathlib.Core.Path.{_≡_, refl}
-use mathlib.Core.List.{map}
+use mathlib.Core.Path.{refl}
 use Rattle.idcode.specs.Id.{parseId, textOf, isIdByte, allId, idTail, sumFrom}
 use Rattle.scope.specs.Index.{parseIndex}
 use Rattle.text.specs.Bytes.{isBlank, equal, has, starts, upTo}
@@ -13,11 +12,8 @@ use Rattle.token.specs.Read.{byteRead, endRead, after, gap, word, skipped, valu
 use Rattle.parser_part.specs.Plan.{run, kindOf}
 use Rattle.parser.specs.Next.{isGood, found, nextFrom}
 use Rattle.parser.specs.All.{commandsOn, commands, reading, readAll}
-use Rattle.points.specs.Points.{Asked, Told, points, tells}
+use Rattle.points.specs.Points.{Starred}
 
-abbrev pub computed : Asked × Told → Asked × Told
-computed p = (p .0, tells (p .0))
-
-pub starred : map computed points ≡ points
+pub starred : Starred
 unfolding parseId isIdByte allId idTail sumFrom textOf parseIndex readAll reading commands commandsOn nextFrom isGood found kindOf run lookup skipped gap word after byteRead endRead token wordHere wordToken textFrom textTo valuesIn isBlank equal has starts upTo part isValue lower validUtf8 wellFormed dueAfter lies beginsWith blankAt blanks allWhite keptOf
-starred = refl
+starred = (refl, refl)

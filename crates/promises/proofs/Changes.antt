@@ -3,6 +3,7 @@ use Prim.Native.Nat.{ℕ, _-_, _^_, _≤_, _<_}
 use mathlib.Core.Path.{_≡_, refl, ap, ap₂, _∙_}
 use mathlib.Core.Bool.{true, false, false≢true}
 use mathlib.Core.List.{List, [], _∷_, _++_, map}
+use native.Mathlib.Nat.{le-refl}
 use native.Mathlib.Omega.{arith}
 use borrow.Author.Tests.{eqb-false}
 use lib.ListN.{length}
@@ -21,7 +22,7 @@ use Rattle.idcode.specs.declared.Parsed.{Parsed}
 use Rattle.idcode.proofs.Pairing.{read-written as id-written}
 use Rattle.command.specs.Meaning.{Meaning, timestamp, change, scalar, vector, real, string, meaning}
 use Rattle.command.specs.declared.Command.{Command}
-use Rattle.token.specs.Read.{most, values, valuesIn, Valid}
+use Rattle.token.specs.Read.{most, unlimited, values, valuesIn, Valid}
 use Rattle.token.specs.declared.Cursor.{Cursor}
 use Rattle.parser_part.specs.Plan.{answer, anId, run, kindOf}
 use Rattle.parser.specs.All.{said, says}
@@ -118,5 +119,5 @@ module _ (s g r : List ℕ) (c e : Cursor) (v : Valid s c) (p : allBlank g ≡ t
   string-back i x y z o h =
       let x-is = both (isToken x) (validUtf8 x) o in
       by-first s r e _ c g 115 (x ++ 32 ∷ (idText (i .0) ++ bytes "\n")) v h p refl
-      λ d a. by-word s r e _ d (most limit) _ x 32 (idText (i .0) ++ bytes "\n") a (x-is .0) refl (fits s c d x (32 ∷ (idText (i .0) ++ bytes "\n")) r e v a) (x-is .1)
+      λ d a. by-word s r e _ d unlimited _ x 32 (idText (i .0) ++ bytes "\n") a (x-is .0) refl (le-refl _) (x-is .1)
       λ t d q a. id-last i _ (λ i. Command.ChangeString i t) d y z (ap (λ (l : List ℕ). change i (string l)) q) a

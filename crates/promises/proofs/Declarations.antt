@@ -3,6 +3,7 @@ use Prim.Native.Nat.{ℕ, _^_, _≤_, _<_}
 use mathlib.Core.Path.{_≡_, refl, sym, ap, _∙_}
 use mathlib.Core.Bool.{true, false, false≢true}
 use mathlib.Core.List.{List, [], _∷_, _++_, append-assoc}
+use native.Mathlib.Nat.{le-refl}
 use native.Mathlib.Omega.{arith}
 use borrow.Author.Tests.{eqb-true, lt-ltb}
 use lib.ListN.{length, drop, take-append-drop}
@@ -38,7 +39,7 @@ use Rattle.command.specs.Meaning.{Meaning, Remark, comment, date, version, rema
 use Rattle.command.specs.declared.Command.{Command}
 use Rattle.command.specs.declared.Open.{Open}
 use Rattle.command.specs.declared.SimulationCommand.{SimulationCommand}
-use Rattle.token.specs.Read.{most, Valid}
+use Rattle.token.specs.Read.{most, unlimited, Valid}
 use Rattle.token.specs.declared.Cursor.{Cursor}
 use Rattle.token.proofs.Reading.{part-in}
 use Rattle.parser_part.specs.Plan.{run, trimmedIn, isAscii, aWord, lastOf, varEnd, remarkOf, remark as remarkPlan, varDef as varCommand}
@@ -163,7 +164,7 @@ module _ (s g r : List ℕ) (c e : Cursor) (v : Valid s c) (p : allBlank g ≡ t
       by-dollar s g r c e v p _ Word.Scope (bytes "scope") 32 (bytes (scopeName k) ++ 32 ∷ (x ++ bytes " $end\n")) h refl refl (omega arith) refl
       λ d a. by-word s r e _ d (most 32) _ (bytes (scopeName k)) 32 (x ++ bytes " $end\n") a (n .token) refl (n .short) (n .utf8)
       λ t d q a. rw (scope-names .back k)
-      (by-word s r e _ d (most limit) _ x 32 (bytes "$end\n") a (x-is .0) refl (fits s c d x (bytes " $end\n") r e v a) (x-is .1)
+      (by-word s r e _ d unlimited _ x 32 (bytes "$end\n") a (x-is .0) refl (le-refl _) (x-is .1)
       λ t d q a. by-closing s r e (scopeDef k x) (Command.ScopeDef k t) (ap (scopeDef k) q) d a)
 
   -- ---- a variable up to its name
@@ -189,7 +190,7 @@ module _ (s g r : List ℕ) (c e : Cursor) (v : Valid s c) (p : allBlank g ≡ t
       λ t d q a. rw (read-written (2 ^ 32) n b)
       (by-word s r e _ d (most 32) _ (idText (i .0)) 32 l₁ a (w .token) refl (w .short) (w .utf8)
       λ t d q a. rw (id-fits i f z)
-      (by-word s r e _ d (most limit) _ x 32 l a (x-is .0) refl (fits s c d x (32 ∷ l) r e v a) (x-is .1)
+      (by-word s r e _ d unlimited _ x 32 l a (x-is .0) refl (le-refl _) (x-is .1)
       λ t d q a. next t d q a)))
 
   -- the last token

@@ -37,10 +37,11 @@ use Rattle.rows.specs.declared.Row.{Row}
 use Rattle.write_check.specs.Check.{isTrimmed, isRemark, isName, areLower, isVector}
 use Rattle.write.specs.Call.{outcome, call}
 use Rattle.write.specs.Layout.{layout, isId, isOpen, raised, stateAfter, fresh}
-use Rattle.write.specs.Run.{layouts, statesAfter, Sized, taken, effect}
+use Rattle.write.specs.Run.{layouts, statesAfter, Sized, taken}
+use Rattle.tree.specs.Place.{someOutside}
 use Rattle.write_header.specs.Meanings.{rowMeanings, headerMeanings}
-use Rattle.write_header.specs.Written.{someOutside, misplaced, stopped, headerCall}
-use Rattle.promises.specs.Runs.{SizedTable, Call, single, adding, header, effectOf, runs}
+use Rattle.write_header.specs.Written.{misplaced, stopped, headerCall}
+use Rattle.promises.specs.Runs.{SizedTable, Call, single, adding, header, ran, effectOf, runs}
 use Rattle.promises.proofs.Runs.{round-trip}
 
 abbrev source : List ℕ
@@ -106,7 +107,7 @@ accepted =
     ∷ begin SimulationCommand.Dumpvars ∷ change (id 0) (vector (bytes "x0x")) ∷ end SimulationCommand.Dumpvars ∷ []
 
 pub written : runs fresh calls ≡ record { file = file; accepted = accepted }
-unfolding calls file accepted table fits sized runs effectOf taken layouts statesAfter effect call outcome tooLong outside isWithin putAnswer putBytes layout isTrimmed isRemark isName areLower isVector isId isOpen raised stateAfter part lower isToken noBlank isBlank has starts holds validUtf8 wellFormed dueAfter lies beginsWith blankAt blanks allWhite keptOf digitsOf textOf isParent openTo isGoodFrom isGoodTable parentOf signedOf isIndex indexOf listed allZero rowOf rowAt wordsOf rowsFrom scopeTypeOf varTypeOf rowMeanings headerMeanings someOutside misplaced stopped headerCall
+unfolding calls file accepted table fits sized ran effectOf taken layouts statesAfter call outcome tooLong outside isWithin putAnswer putBytes layout isTrimmed isRemark isName areLower isVector isId isOpen raised stateAfter part lower isToken noBlank isBlank has starts holds validUtf8 wellFormed dueAfter lies beginsWith blankAt blanks allWhite keptOf digitsOf textOf isParent openTo isGoodFrom isGoodTable parentOf signedOf isIndex indexOf listed allZero rowOf rowAt wordsOf rowsFrom scopeTypeOf varTypeOf rowMeanings headerMeanings someOutside misplaced stopped headerCall
 written = refl
 
 pub reads-so : readAll file start ≡ exactly accepted

@@ -1,4 +1,5 @@
 pub mod Back
+pub mod Commands
 pub mod Plain
 pub mod Trims
 pub mod Reals
@@ -12,5 +13,10 @@ pub mod Rewriting
 pub mod Pinned
 pub mod Points
 pub mod Listing
+pub mod Reasons
+pub mod Pages
 pub mod Example
+pub mod LibraryExample
 pub mod Lines
+pub mod Standard
+pub mod Jobs

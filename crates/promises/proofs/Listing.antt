@@ -6,25 +6,29 @@ use mathlib.Core.List.{List, [], _∷_, _++_, map}
 use native.Mathlib.Omega.{arith}
 use borrow.Author.Tests.{eqb-true, eq-eqb, leb-true, leb-false}
 use lib.Dec.{leb}
-use lib.ListN.{length, getD, take, replicate, length-map, length-replicate, List·getD-eq-default}
-use lib.Seq.{length-take-le, getD-take, take-length}
+use lib.ListN.{length, getD, take, length-map, List·getD-eq-default}
+use lib.Seq.{length-take-le, getD-take, take-all, drop-at}
 use Rattle.text.specs.declared.Text.{Text}
 use Rattle.text.proofs.Lists.{by-test}
+use Rattle.command.specs.declared.Refusal.{Refusal}
 use Rattle.idcode.specs.declared.IdCode.{IdCode}
 use Rattle.token.specs.Read.{bit}
 use Rattle.token.specs.declared.Cursor.{Cursor}
 use Rattle.parser.specs.Next.{nextFrom}
 use Rattle.parser_part.specs.declared.Next.{Next}
 use Rattle.parser.proofs.All.{less-left}
-use Rattle.listing.specs.Listing.{Role, time, change, other, roleOf, sinceAfter, Entry, rowsIn, listOf, filled}
-use Rattle.listing.specs.Rows.{changeAt}
+use Rattle.list_step.specs.Step.{Role, time, change, other, roleOf}
+use Rattle.listing.specs.Listing.{sinceAfter, Entry, rowsIn, listIn}
+use Rattle.change.specs.Rows.{changeAt, wordsOf, filled}
+use Rattle.change.proofs.Table.{all-length, row-at}
 use Rattle.listing.specs.declared.Ended.{Ended}
-use Rattle.listing.specs.declared.changes.Change.{Change}
-use Rattle.listing.specs.declared.changes.ChangeKind.{ChangeKind}
-use Rattle.listing.specs.declared.changes.Since.{Since}
-use Rattle.listing.proofs.Complete.{every, complete, incomplete, row-is, rest-kept, Way, countOf, lastTime as timeOf, each-change, full-there, ends-refused, ends-whole}
-use Rattle.promises.specs.Listed.{Step, Steps, Stops, roleIn, isOf, count, lastTime, Holds}
-use Rattle.promises.specs.Stated.{ReadingStops, ListingComplete, Beyond, ListingFull}
+use Rattle.change.specs.declared.Change.{Change}
+use Rattle.change.specs.declared.ChangeKind.{ChangeKind}
+use Rattle.change.specs.declared.Since.{Since}
+use Rattle.listing.proofs.Complete.{firsts, complete, Way, countOf, lastTime as timeOf, each-change, full-there, ends-refused, ends-whole}
+use Rattle.listing.proofs.Listed.{ahead}
+use Rattle.promises.specs.Listed.{Step, Steps, Stops, roleIn, isOf, count, lastTime, HoldsOn}
+use Rattle.promises.specs.Stated.{ReadingStops, ListingComplete, Beyond, ListingFull, ListingOnComplete, ListingOnFull}
 
 -- ---- reading stops
 Stopping : List ℕ → Cursor → Type 0
@@ -115,99 +119,107 @@ find s i (x ∷ xs) (suc n) h =
     (λ e. let b : bit (isOf i (roleIn s x)) ≡ 0 = rw e in later s i (suc n) (suc n) x xs (omega arith) (find s i xs (suc n) (omega arith)))
 
 -- ---- a change's row
-all-length : (s : List ℕ) (i : IdCode) (c : Cursor) → length (rowsIn (every s i c)) ≡ length (every s i c)
-all-length s i c = length-map (every s i c) (λ (e : Entry). e .row)
-
-module _ (s : List ℕ) (c : Cursor) (i : IdCode) (table : List ℕ) where
+module _ (s : List ℕ) (c : Cursor) (t : Since) (i : IdCode) (xs : List Step) (d : Cursor) (w : Steps s c xs d) where
   abbrev all : List Change
-  all = rowsIn (every s i c)
-
-  abbrev made : List Change
-  made = listOf s c i table .rows
+  all = rowsIn (ahead s i c t)
 
   -- the changes among xs have these places among all
-  module _ (xs : List Step) (d : Cursor) (w : Steps s c xs d) (ys zs : List Step) (x : Step) (k : ChangeKind) (v : Text) (e : xs ≡ ys ++ (x ∷ zs)) (q : roleIn s x ≡ change i k v) where
+  module _ (ys zs : List Step) (x : Step) (k : ChangeKind) (v : Text) (e : xs ≡ ys ++ (x ∷ zs)) (q : roleIn s x ≡ change i k v) where
     abbrev row : Change
-    row = Change.Is (lastTime s Since.None ys) (x .to .line) k v
+    row = Change.Is (lastTime s t ys) (x .to .line) k v
 
     placed : getD all (count s i ys) Change.None ≡ row
     placed =
         let f = front s c d ys zs x (rw e at w) in
-        rw (count-is s i ys, time-is s Since.None ys) at (each-change s i c (x .from) (map (roleIn s) ys) (way s c (x .from) ys (f .0)) (x .what) (x .to) k v (f .1) q)
+        rw (count-is s i ys, time-is s t ys) at (each-change s i c (x .from) t (map (roleIn s) ys) (way s c (x .from) ys (f .0)) (x .what) (x .to) k v (f .1) q)
 
     -- so there are more of all
     longer : count s i ys < length all
     longer =
         by-test (leb (length all) (count s i ys))
-        (λ t.
-        let n : Change.None ≡ row = sym (List·getD-eq-default all Change.None (leb-true _ _ t)) ∙ placed in
+        (λ b.
+        let n : Change.None ≡ row = sym (List·getD-eq-default all Change.None (leb-true _ _ b)) ∙ placed in
         let z : _≡_ {A = ℕ} 0 1 = cc in
         absurd (omega arith))
-        (λ t. leb-false _ _ t)
+        (λ b. leb-false _ _ b)
 
-    -- and a table has them there, as far as it goes
-    listed : made ≡ take (length made) all → count s i xs ≡ length made → changeAt (filled made table) (count s i ys) ≡ row
-    listed p n =
-        let more : count s i ys < count s i xs = rw e (one-more s i ys zs x k v q) in
-        row-is s c i table (count s i ys) (omega arith)
-        ∙ ap (λ (l : List Change). getD l (count s i ys) Change.None) p
-        ∙ getD-take (length made) all (count s i ys) Change.None (omega arith)
-        ∙ placed
+  -- as many as there are changes among them at least
+  at-least : (n : ℕ) → n < count s i xs → n < length all
+  unfolding Found
+  at-least n h =
+      let r = find s i xs n h in
+      let b = r .2 in
+      omega (arith, longer (r .0) (b .later) (r .1) (b .kind) (b .value) (b .splits) (b .is), b .before)
 
-  -- what is held, by the rows that are made
-  holds : (xs : List Step) (d : Cursor) (e : Ended) (f : Cursor) → Steps s c xs d → made ≡ take (length made) all → count s i xs ≡ length made
-      → listOf s c i table .ended ≡ e → listOf s c i table .cursor ≡ f → Holds s c i table xs e f
-  holds xs d e f w p n a b =
+-- ---- what is held, by the rows that are made
+module _ (s : List ℕ) (c : Cursor) (t : Since) (i : IdCode) (table : List ℕ) where
+  abbrev made : List Change
+  made = listIn s c t i (length table / 6) .rows
+
+  holds : (xs : List Step) (d : Cursor) (e : Ended) (f : Cursor) → Steps s c xs d → count s i xs ≤ length table / 6 → length made ≡ count s i xs
+      → listIn s c t i (length table / 6) .ended ≡ e
+      → listIn s c t i (length table / 6) .cursor ≡ f
+      → listIn s c t i (length table / 6) .since ≡ lastTime s t xs
+      → HoldsOn s c t i table xs e f
+  holds xs d e f w room n a b u =
       record {
-        answer = rw (n, a, b);
-        each = λ ys zs x k v o q. listed xs d w ys zs x k v o q p n;
-        rest = rw n (rest-kept s c i table);
+        answer = rw (n, a, b, u);
+        each = λ ys zs x k v o q.
+            let more : count s i ys < count s i xs = rw o (one-more s i ys zs x k v q) in
+            row-at made table (count s i ys) (omega arith)
+            ∙ ap (λ (l : List Change). getD l (count s i ys) Change.None) (firsts s c t i (length table / 6))
+            ∙ getD-take (length table / 6) (all s c t i xs d w) (count s i ys) Change.None (omega arith)
+            ∙ placed s c t i xs d w ys zs x k v o q;
+        rest = rw (← n) (drop-at (wordsOf made) _ (6 * length made) (all-length made));
       }
 
 -- ---- enough room
-module _ (s : List ℕ) (c : Cursor) (i : IdCode) (xs : List Step) (d f : Cursor) (w : Steps s c xs d) where
-  abbrev ws : Way s c (map (roleIn s) xs) d
-  ws = way s c d xs w
+module _ (s : List ℕ) (c : Cursor) (t : Since) (i : IdCode) (xs : List Step) (d f : Cursor) (w : Steps s c xs d) where
+  abbrev Ends : ℕ → Ended → Type 0
+  Ends room e =
+      (length (listIn s c t i room .rows) ≡ count s i xs)
+      × (listIn s c t i room .ended ≡ e)
+      × (listIn s c t i room .cursor ≡ f)
+      × (listIn s c t i room .since ≡ lastTime s t xs)
 
-  ended : (e : Ended) → Stops s d e f → (table : List ℕ) → count s i xs ≤ length table / 6
-      → (length (listOf s c i table .rows) ≡ count s i xs) × (listOf s c i table .ended ≡ e) × (listOf s c i table .cursor ≡ f)
-  ended Ended.Whole q table h = rw (count-is s i xs) at (ends-whole s i c d (map (roleIn s) xs) ws table (rw (count-is s i xs) h) f q)
-  ended (Ended.Refused r n) q table h = rw (count-is s i xs) at (ends-refused s i c d (map (roleIn s) xs) ws table (rw (count-is s i xs) h) r n f q)
+  pub ends : (e : Ended) → Stops s d e f → (room : ℕ) → count s i xs ≤ room → Ends room e
+  ends Ended.Whole q room h =
+      rw (count-is s i xs, time-is s t xs) at (ends-whole s i c d t (map (roleIn s) xs) (way s c d xs w) room (rw (count-is s i xs) h) f q)
+  ends (Ended.Refused r n) q room h =
+      rw (count-is s i xs, time-is s t xs) at (ends-refused s i c d t (map (roleIn s) xs) (way s c d xs w) room (rw (count-is s i xs) h) r n f q)
 
-  module _ (e : Ended) (q : Stops s d e f) where
-    -- all the changes are those among xs, as a table with room for both shows
-    all-count : length (every s i c) ≡ count s i xs
-    all-count =
-        let n : ℕ = count s i xs + length (every s i c) in
-        let table : List ℕ = replicate (6 * n) 0 in
-        let room : length table ≡ 6 * n = length-replicate (6 * n) 0 in
-        let y : listOf s c i table .rows ≡ rowsIn (every s i c) = rw (complete s c i table (omega arith)) in
-        sym (all-length s i c) ∙ ap length (sym y) ∙ ended e q table (omega arith) .0
+  -- the changes among xs are all there are
+  pub all-count : (e : Ended) → Stops s d e f → length (ahead s i c t) ≡ count s i xs
+  all-count e q =
+      let l : List Entry = ahead s i c t in
+      let room : ℕ = count s i xs + length l in
+      let rows : listIn s c t i room .rows ≡ rowsIn l = rw (complete s c t i room (omega arith)) in
+      sym (length-map l (λ (x : Entry). x .row)) ∙ ap length (sym rows) ∙ ends e q room (omega arith) .0
 
-    whole : (table : List ℕ) → count s i xs ≤ length table / 6 → Holds s c i table xs e f
-    whole table h =
-        let l : List Change = rowsIn (every s i c) in
-        let x = ended e q table h in
-        let y : listOf s c i table .rows ≡ l = rw (complete s c i table (omega (arith, all-count))) in
-        holds s c i table xs d e f w (rw y (sym (take-length l))) (sym (x .0)) (x .1) (x .2)
+pub listing-on-complete : ListingOnComplete
+listing-on-complete s c t i xs d e f w q table h =
+    let x = ends s c t i xs d f w e q (length table / 6) h in
+    holds s c t i table xs d e f w h (x .0) (x .1) (x .2) (x .3)
 
 pub listing-complete : ListingComplete
-listing-complete s c i xs d e f w q table h = whole s c i xs d f w e q table h
+listing-complete s c i = listing-on-complete s c Since.None i
 
 -- ---- too little
-pub listing-full : ListingFull
+pub listing-on-full : ListingOnFull
 unfolding Found
-listing-full s c i xs d w table h =
+listing-on-full s c t i xs d w table h =
     let n : ℕ = length table / 6 in
-    let l : List Change = rowsIn (every s i c) in
     let r = find s i xs n h in
     let ys : List Step = r .0 in
     let x : Step = r .1 in
     let b = r .2 in
     let o = front s c d ys (b .later) x (rw (b .splits) at w) in
-    let more : count s i ys < length l = longer s c i table xs d w ys (b .later) x (b .kind) (b .value) (b .splits) (b .is) in
-    let room : n < length (every s i c) = omega (arith, all-length s i c, b .before) in
-    let y : listOf s c i table .rows ≡ take n l = rw (incomplete s c i table room) in
-    let long : length (listOf s c i table .rows) ≡ n = ap length y ∙ length-take-le n l (omega (arith, all-length s i c)) in
-    let z = full-there s i c (x .from) (map (roleIn s) ys) (way s c (x .from) ys (o .0)) (x .what) (x .to) (b .kind) (b .value) (o .1) (b .is) table (count-is s i ys ∙ b .before) in
-    (ys, x, b, holds s c i table ys (x .from) _ _ (o .0) (rw long y) (b .before ∙ sym long) (z .0) (z .1))
+    let l : List Change = rowsIn (ahead s i c t) in
+    let many : n < length l = at-least s c t i xs d w n h in
+    let z : listIn s c t i n ≡ record { rows = take n l; ended = Ended.Refused Refusal.ListFull (x .from .line); cursor = x .from; since = lastTime s t ys } =
+    rw (count-is s i ys, time-is s t ys, b .before) at (full-there s i c (x .from) t (map (roleIn s) ys) (way s c (x .from) ys (o .0)) (x .what) (x .to) (b .kind) (b .value) (o .1) (b .is)) in
+    let long : length (listIn s c t i n .rows) ≡ count s i ys = rw (z, b .before) (length-take-le n l (omega arith)) in
+    (ys, x, b, holds s c t i table ys (x .from) _ _ (o .0) (omega (arith, b .before)) long (rw z) (rw z) (rw z))
+
+pub listing-full : ListingFull
+listing-full s c i = listing-on-full s c Since.None i

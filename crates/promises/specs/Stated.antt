@@ -1,5 +1,5 @@
 -- What is promised: the statements of this crate in one place. Their proofs are in proofs/, under the same names in lower case.
-use Prim.Native.Nat.{ℕ, _+_, _-_, _/_, _^_, _≤_, _<_}
+use Prim.Native.Nat.{ℕ, suc, _+_, _-_, _*_, _/_, _^_, _≤_, _<_}
 use mathlib.Core.Path.{_≡_}
 use mathlib.Core.Bool.{true, false}
 use mathlib.Core.List.{List, [], _∷_, _++_}
@@ -21,7 +21,8 @@ use Rattle.token.specs.Read.{Valid, after, rest}
 use Rattle.token.specs.declared.Cursor.{Cursor}
 use Rattle.parser_part.specs.Plan.{withOpen}
 use Rattle.parser.specs.Next.{nextFrom, fresh as start}
-use Rattle.parser.specs.All.{said, says, readAll, exactly}
+use Rattle.parser.specs.Refusals.{isOfReading}
+use Rattle.parser.specs.All.{Commands, command, stop, finish, commands, said, says, readAll, exactly}
 use Rattle.parser_part.specs.declared.Next.{Next}
 use Rattle.rows.specs.Rows.{rowsOf}
 use Rattle.header.specs.declared.Header.{Header}
@@ -35,11 +36,33 @@ use Rattle.write.specs.declared.Written.{Written}
 use Rattle.write_header.specs.Meanings.{headerMeanings}
 use Rattle.write_header.specs.Written.{Outcome as HeaderOutcome, headerCall, Does as HeaderDoes}
 use Rattle.write_header.specs.declared.HeaderWritten.{HeaderWritten}
-use Rattle.listing.specs.Listing.{change as changeTold}
+use Rattle.vcd_state.specs.State.{writerWords}
+use Rattle.list_step.specs.Step.{change as changeTold}
+use Rattle.listing.specs.Listing.{Outcome as Listing, listIn}
 use Rattle.listing.specs.declared.Ended.{Ended}
-use Rattle.listing.specs.declared.changes.ChangeKind.{ChangeKind}
-use Rattle.promises.specs.Runs.{SizedTable, SizedScale, Call, header, effectOf, Ran, runs}
-use Rattle.promises.specs.Listed.{Step, Steps, Stops, roleIn, count, Holds}
+use Rattle.change.specs.declared.ChangeKind.{ChangeKind}
+use Rattle.change.specs.declared.Since.{Since}
+use Rattle.list_job.specs.Whole.{listText, listWhole}
+use Rattle.list_job.specs.Turns.{lent, rowWords, changeWords, Runs as Turns, Turned, Does as ListDoes}
+use Rattle.list_job.specs.declared.State.{State}
+use Rattle.list_job.specs.declared.Turn.{Turn}
+use Rattle.lines.specs.Lines.{headerRows}
+use Rattle.reformat_job.specs.Reformat.{lentBytes, reformatText, reformatWhole}
+use Rattle.reformat_job.specs.Turns.{Runs as ReformatTurns, Turned as ReformatTurned, Does as ReformatDoes}
+use Rattle.reformat_job.specs.declared.State.{State as ReformatState}
+use Rattle.reformat_job.specs.declared.Turn.{Turn as ReformatTurn}
+use Rattle.promises.specs.Runs.{SizedTable, SizedScale, Call, header, effectOf, Ran, runs, LibraryCall, libraryRuns}
+use Rattle.promises.specs.Listed.{Step, Steps, Stops, roleIn, count, Holds, HoldsOn, joined, paged}
+
+-- All commands from a cursor, as everything below has them: a command and then those from the cursor after it; or the refusal, or the
+-- end, where reading says so and nowhere else.
+abbrev pub firstOf : List ℕ → Next → Commands
+firstOf s (Next.Command k d) = command k d (commands s d)
+firstOf s (Next.Refused e n d) = stop e n d
+firstOf s (Next.Done d) = finish d
+
+abbrev pub CommandsStep : Type 0
+CommandsStep = (s : List ℕ) (c : Cursor) → commands s c ≡ firstOf s (nextFrom s c)
 
 -- a layout in two parts: what reading its command leaves to the next read, the newline after a comment's `$end`; and before it what reading takes
 abbrev pub due : Meaning → List ℕ
@@ -86,9 +109,12 @@ pub record Joined (w : Writer) (x : Ran) : Type 0 where
   pub bytes : x .file ≡ layouts (x .accepted)
   pub each : Accepted w (x .accepted)
 
--- of every state whose next id is of its type, as a new writer's is
+-- of every state whose next id is of its type, as a new writer's is; as a writer, and as words
 abbrev pub RunAccepted : Type 0
 RunAccepted = (w : Writer) (cs : List Call) → w .id .0 < 2 ^ 64 → Joined w (runs w cs)
+
+abbrev pub LibraryAccepted : Type 0
+LibraryAccepted = (w : Writer) (cs : List LibraryCall) → w .id .0 < 2 ^ 64 → Joined w (libraryRuns (writerWords w) cs)
 
 -- A header that is written whole: its commands are accepted, all of them.
 abbrev pub HeaderWhole : Type 0
@@ -97,9 +123,18 @@ HeaderWhole =
     → headerCall w src h table n out .answer ≡ HeaderWritten.Bytes m v
     → effectOf w (header src h table n out z y) .accepted ≡ headerMeanings src h (rowsOf table n)
 
--- Any calls of a new writer, refused ones among them: the file reads back as exactly the accepted commands, then the end.
+-- Any calls of a new writer, in any mixture, refused ones among them: the file reads back as exactly the accepted commands, then the end.
 abbrev pub RoundTrip : Type 0
 RoundTrip = (cs : List Call) → length (runs fresh cs .file) ≤ limit → readAll (runs fresh cs .file) start ≡ exactly (runs fresh cs .accepted)
+
+-- The same of the library: from the words of VCD_WRITER_START, each call given the words that the last one left.
+abbrev pub startWords : List ℕ
+startWords = 0 ∷ 0 ∷ 0 ∷ []
+
+abbrev pub LibraryRoundTrip : Type 0
+LibraryRoundTrip =
+    (cs : List LibraryCall) → length (libraryRuns startWords cs .file) ≤ limit
+    → readAll (libraryRuns startWords cs .file) start ≡ exactly (libraryRuns startWords cs .accepted)
 
 -- Rewriting: a command that was read and that the writer accepts at its state w is read again, from what was written, as the same
 -- command: from any good cursor where the same simulation command is open, after blanks and before anything.
@@ -177,6 +212,17 @@ AddsPinned = (i : IdCode) (r q : Added) (o p : List ℕ) (x : Outcome) → Adds 
 abbrev pub HeaderPinned : Type 0
 HeaderPinned = (r q : HeaderWritten) (o p : List ℕ) (x : HeaderOutcome) → HeaderDoes r o x → HeaderDoes q p x → (r ≡ q) × (o ≡ p)
 
+-- of a turn of each program, which answers and leaves its tables and its output.
+abbrev pub ListTurnPinned : Type 0
+ListTurnPinned =
+    (r q : Turn) (rows rows′ changes changes′ out out′ out₀ : List ℕ) (t : Turned) → ListDoes r rows changes out out₀ t → ListDoes q rows′ changes′ out′ out₀ t
+    → (r ≡ q) × (rows ≡ rows′) × (changes ≡ changes′) × (out ≡ out′)
+
+abbrev pub TurnPinned : Type 0
+TurnPinned =
+    (r q : ReformatTurn) (rows rows′ out out′ out₀ : List ℕ) (t : ReformatTurned) → ReformatDoes r rows out out₀ t → ReformatDoes q rows′ out′ out₀ t
+    → (r ≡ q) × (rows ≡ rows′) × (out ≡ out′)
+
 -- Points on the writer's side of its borders. Inside a scope of a new writer:
 abbrev pub inside : IdCode → Writer
 inside i = record { depth = 1; id = i; sim = Open.None }
@@ -199,3 +245,49 @@ pub record WriterPoints : Type 0 where
 -- the line that one roleIn is that of the cursor it returns
 abbrev pub RefusalLine : Type 0
 RefusalLine = (s : List ℕ) (c : Cursor) (e : Refusal) (n : ℕ) (d : Cursor) → nextFrom s c ≡ Next.Refused e n d → n ≡ d .line
+
+-- ---- listing on, from any cursor and any time
+-- With enough room `list_on` holds every change of the code up to where reading stops, once, in file order, with the last timestamp before
+-- it: the time that was given, until one is read. It ends as reading does, and answers the last time then.
+abbrev pub ListingOnComplete : Type 0
+ListingOnComplete =
+    (s : List ℕ) (c : Cursor) (t : Since) (i : IdCode) (xs : List Step) (d : Cursor) (e : Ended) (f : Cursor) → Steps s c xs d → Stops s d e f
+    → (table : List ℕ) → count s i xs ≤ length table / 6 → HoldsOn s c t i table xs e f
+
+-- With too little it holds those before the first change that finds no row, and ends by 24 with the cursor and the time as they stood
+-- before it.
+abbrev pub ListingOnFull : Type 0
+ListingOnFull =
+    (s : List ℕ) (c : Cursor) (t : Since) (i : IdCode) (xs : List Step) (d : Cursor) → Steps s c xs d → (table : List ℕ) → length table / 6 < count s i xs
+    → (ys : List Step) × (x : Step) × Beyond s i (length table / 6) xs ys x
+    × HoldsOn s c t i table ys (Ended.Refused Refusal.ListFull (x .from .line)) (x .from)
+
+-- Reading refuses by 1 to 7, 9 to 15, 17, 18 or 25 alone, so that 24 says that rows were wanting.
+abbrev pub ReadingRefusals : Type 0
+ReadingRefusals = (s : List ℕ) (c : Cursor) (e : Refusal) (n : ℕ) (d : Cursor) → nextFrom s c ≡ Next.Refused e n d → isOfReading e ≡ true
+
+-- Pages joined are the one listing.
+pub record ListingPages : Type 0 where
+  -- n rows that end by 24, and then m rows from the cursor and the time that came out, are the listing of n + m rows: the same rows, end,
+  -- cursor and time
+  pub two : (s : List ℕ) (c : Cursor) (t : Since) (i : IdCode) (n m line : ℕ) → listIn s c t i n .ended ≡ Ended.Refused Refusal.ListFull line
+      → let a : Listing = listIn s c t i n in joined a (listIn s (a .cursor) (a .since) i m) ≡ listIn s c t i (n + m)
+  -- so are any number of pages
+  pub many : (s : List ℕ) (c : Cursor) (t : Since) (i : IdCode) (n k : ℕ) → paged s i n k c t ≡ listIn s c t i (n * suc k)
+  -- and with as many rows in all as there are changes, they are the listing with enough room
+  pub all : (s : List ℕ) (c : Cursor) (t : Since) (i : IdCode) (xs : List Step) (d : Cursor) (e : Ended) (f : Cursor) → Steps s c xs d → Stops s d e f
+      → (n k m : ℕ) → count s i xs ≤ n * suc k → count s i xs ≤ m → paged s i n k c t ≡ listIn s c t i m
+
+-- ---- the programs
+-- The turns of the listing program, from the first state, into tables for the most rows and changes and an output of so many bytes, end;
+-- their bytes, joined, are the whole of its text, and the last one tells whether the input was whole. Whatever the input is.
+abbrev pub Printed : Type 0
+Printed =
+    (s : List ℕ) (room : ℕ) (rows changes : List ℕ) → lent ≤ room → length rows ≡ rowWords → length changes ≡ changeWords
+    → Turns s room rows changes State.Begin (listText s) (listWhole s)
+
+-- The turns of vcd_reformat from the first state, with the rows and the bytes of output that a program lends, print exactly the text
+-- that is stated for the input, whatever it is, and they end: whole where the whole dump was written, else not.
+abbrev pub Reformatted : Type 0
+Reformatted =
+    (s table : List ℕ) → length table ≡ 10 * headerRows → ReformatTurns s lentBytes table ReformatState.Begin (reformatText s) (reformatWhole s)

@@ -10,8 +10,8 @@ use lib.ListN.{length, take, drop}
 use Rattle.text.proofs.Lists.{by-test}
 use Rattle.rows.specs.Rows.{rowAt}
 use Rattle.rows.specs.declared.Row.{Row}
-use Rattle.listing.specs.Rows.{changeAt}
-use Rattle.listing.specs.declared.changes.Change.{Change}
+use Rattle.change.specs.Rows.{changeAt}
+use Rattle.change.specs.declared.Change.{Change}
 use Rattle.read_calls.specs.Reading.{isRow, isChange, rowStatus, rowCopied, isRowCall, isChangeCall}
 
 -- ---- rows

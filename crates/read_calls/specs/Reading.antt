@@ -12,10 +12,8 @@ use Rattle.header.specs.declared.Ended.{Ended as HeaderEnded}
 use Rattle.header.specs.declared.HeaderAnswer.{HeaderAnswer}
 use Rattle.find.specs.declared.FoundRow.{FoundRow}
 use Rattle.rows.specs.declared.Row.{Row}
-use Rattle.listing.specs.Listing.{Outcome as ListOutcome, listOf, filled as listFilled}
-use Rattle.listing.specs.Rows.{changeAt}
-use Rattle.listing.specs.declared.Ended.{Ended as ListEnded}
-use Rattle.listing.specs.declared.changes.Change.{Change}
+use Rattle.change.specs.Rows.{changeAt}
+use Rattle.change.specs.declared.Change.{Change}
 use Rattle.parser.specs.Next.{nextFrom}
 use Rattle.parser_part.specs.declared.Next.{Next}
 use Rattle.records.specs.Read.{Outcome as ReadOutcome, readOf, filled as readFilled}
@@ -128,24 +126,13 @@ isRowCall t i o = cond (eqb (length o) 10) (isRow (rowAt t i)) false
 unfoldable pub isChangeCall : List ℕ → ℕ → List ℕ → Bool
 isChangeCall t i o = cond (eqb (length o) 6) (isChange (changeAt t i)) false
 
-abbrev pub foundNumber : FoundRow → ℕ
-foundNumber (FoundRow.At n) = n .0
-foundNumber FoundRow.None = none
+-- a row that is found, or none, is stored; a refusal stores nothing
+abbrev pub foundStatus : FoundRow → ℕ
+foundStatus (FoundRow.At n) = 0
+foundStatus FoundRow.None = 0
+foundStatus (FoundRow.Refused e) = numberOf e
 
--- ---- listings
-abbrev pub listStatus : ListEnded → ℕ
-listStatus ListEnded.Whole = 0
-listStatus (ListEnded.Refused e line) = numberOf e
-
-abbrev pub listed : List ℕ → List ℕ → ℕ → Cursor → Left
-listed s t i c =
-    let o : ListOutcome = listOf s c (record { 0 = i }) t in
-    record {
-      status = listStatus (o .ended);
-      cursor = cursorWords (o .cursor);
-      table = listFilled (o .rows) t;
-      count = length (o .rows);
-    }
-
-unfoldable pub listCall : List ℕ → List ℕ → ℕ → List ℕ → ℕ → Left
-listCall s w i t n = onCursor (listed s t i) (kept w t n) (cursorOf w)
+abbrev pub foundAfter : ℕ → FoundRow → ℕ
+foundAfter w (FoundRow.At n) = n .0
+foundAfter w FoundRow.None = none
+foundAfter w (FoundRow.Refused e) = w

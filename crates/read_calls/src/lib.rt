@@ -1,9 +1,8 @@
-// The reading calls of the library for C and Rust, over numbers and lent arrays alone: commands, headers and their rows, names and
-// listings. Each answers OK or the number of a refusal; reading answers DONE at the end. State travels as words that the caller keeps
+// The reading calls of the library for C and Rust, over numbers and lent arrays alone: commands, headers, names, and the rows of headers
+// and listings. Each answers OK or the number of a refusal; reading answers DONE at the end. State travels as words that the caller keeps
 // (crate vcd_state); an array of the wrong length, or words that are no state, are refused by BAD_PLACE with nothing changed.
+use change::Change;
 use find::FoundRow;
-use idcode::IdCode;
-use listing::Change;
 use rows::Row;
 use vcd_state::CursorRead;
 ghost use mathlib.Core.Path.{_≡_};
@@ -21,9 +20,8 @@ ghost use Rattle.read_calls.specs.Reading.{
   rowCopied,
   isRowCall,
   isChangeCall,
-  foundNumber,
-  listCall,
-  listStatus,
+  foundStatus,
+  foundAfter,
 };
 
 const OK: u64 = 0;
@@ -151,55 +149,36 @@ fn copy_row(rows: &[u64], i: usize, row: &mut [u64]) -> u64
     OK
 }
 
-// The row of the scope at a path of names, parted by one space; NONE where there is none.
-pub fn find_scope(input: &[u8], rows: &[u64], count: usize, path: &[u8]) -> u64
-    ensures { λ r. ⌜ r ≡ foundNumber (foundRow (now (input .entry)) Kind.Scope (now (rows .entry)) count (now (path .entry))) ⌝ }
+// The row of the scope at a path of names, parted by one space; NONE where there is none. A refusal leaves `row` as it was.
+pub fn find_scope(input: &[u8], rows: &[u64], count: usize, path: &[u8], row: &mut u64) -> u64
+    ensures status { λ r. ⌜ r ≡ foundStatus (foundRow (now (input .entry)) Kind.Scope (now (rows .entry)) count (now (path .entry))) ⌝ }
+    ensures row { λ _. ⌜ now (row .exit) ≡ foundAfter (now (row .entry)) (foundRow (now (input .entry)) Kind.Scope (now (rows .entry)) count (now (path .entry))) ⌝ }
 {
-    found(find::find_scope(input, rows, count, path))
+    found(find::find_scope(input, rows, count, path), row)
 }
 
-// The row of the variable at a path of names, parted by one space; NONE where there is none.
-pub fn find_var(input: &[u8], rows: &[u64], count: usize, path: &[u8]) -> u64
-    ensures { λ r. ⌜ r ≡ foundNumber (foundRow (now (input .entry)) Kind.Var (now (rows .entry)) count (now (path .entry))) ⌝ }
+// The row of the variable at a path of names, parted by one space; NONE where there is none. A refusal leaves `row` as it was.
+pub fn find_var(input: &[u8], rows: &[u64], count: usize, path: &[u8], row: &mut u64) -> u64
+    ensures status { λ r. ⌜ r ≡ foundStatus (foundRow (now (input .entry)) Kind.Var (now (rows .entry)) count (now (path .entry))) ⌝ }
+    ensures row { λ _. ⌜ now (row .exit) ≡ foundAfter (now (row .entry)) (foundRow (now (input .entry)) Kind.Var (now (rows .entry)) count (now (path .entry))) ⌝ }
 {
-    found(find::find_var(input, rows, count, path))
+    found(find::find_var(input, rows, count, path), row)
 }
 
-fn found(f: FoundRow) -> u64
-    ensures { λ r. ⌜ r ≡ foundNumber f ⌝ }
+fn found(f: FoundRow, row: &mut u64) -> u64
+    ensures status { λ r. ⌜ r ≡ foundStatus f ⌝ }
+    ensures row { λ _. ⌜ now (row .exit) ≡ foundAfter (now (row .entry)) f ⌝ }
 {
     match f {
-        FoundRow::At(n) => n.0,
-        FoundRow::None => NONE,
-    }
-}
-
-// Lists the changes of a code from the cursor on into rows of six words, and counts them.
-pub fn list(input: &[u8], cursor: &mut [u64], code: u64, rows: &mut [u64], count: &mut u64) -> u64
-    ensures status { λ r. ⌜ r ≡ listCall (now (input .entry)) (now (cursor .entry)) code (now (rows .entry)) (now (count .entry)) .status ⌝ }
-    ensures cursor { λ _. ⌜ now (cursor .exit) ≡ listCall (now (input .entry)) (now (cursor .entry)) code (now (rows .entry)) (now (count .entry)) .cursor ⌝ }
-    ensures rows { λ _. ⌜ now (rows .exit) ≡ listCall (now (input .entry)) (now (cursor .entry)) code (now (rows .entry)) (now (count .entry)) .table ⌝ }
-    ensures count { λ _. ⌜ now (count .exit) ≡ listCall (now (input .entry)) (now (cursor .entry)) code (now (rows .entry)) (now (count .entry)) .count ⌝ }
-{
-    match vcd_state::cursor_of(cursor) {
-        CursorRead::Is(c) => {
-            let a = listing::list(input, c, IdCode(code), rows);
-            let d = a.cursor;
-            let ended = a.ended;
-            vcd_state::put_cursor(cursor, d);
-            *count = a.count as u64;
-            list_status(ended)
+        FoundRow::At(n) => {
+            *row = n.0;
+            OK
         }
-        CursorRead::Bad => BAD_PLACE,
-    }
-}
-
-fn list_status(e: listing::Ended) -> u64
-    ensures { λ r. ⌜ r ≡ listStatus e ⌝ }
-{
-    match e {
-        listing::Ended::Whole => OK,
-        listing::Ended::Refused(r, _) => r.number(),
+        FoundRow::None => {
+            *row = NONE;
+            OK
+        }
+        FoundRow::Refused(e) => e.number(),
     }
 }
 
@@ -208,10 +187,10 @@ pub fn change(rows: &[u64], i: usize, change: &mut [u64]) -> u64
     ensures status { λ r. ⌜ r ≡ rowStatus (isChangeCall (now (rows .entry)) i (now (change .entry))) ⌝ }
     ensures change { λ _. ⌜ now (change .exit) ≡ rowCopied (isChangeCall (now (rows .entry)) i (now (change .entry))) 6 (now (rows .entry)) i (now (change .entry)) ⌝ }
 {
-    if change.len() != listing::WORDS {
+    if change.len() != change::WORDS {
         return BAD_PLACE;
     }
-    match listing::change_at(rows, i) {
+    match change::change_at(rows, i) {
         Change::None => BAD_PLACE,
         Change::Is(_, _, _, _) => copy_row(rows, i, change),
     }

@@ -2,14 +2,13 @@
 // Nothing is promised of these but that they are safe and end: what they print is held to the oracle's answers.
 pub mod line;
 
+use console::Input;
 use number::Number;
 use text::Text;
 ghost use Prim.Native.Nat.{_≤_, _<_};
 pub use console::front;
-pub use console::least;
 pub use console::put;
 pub use console::put_byte;
-pub use console::read_input;
 pub use console::write_front;
 pub use line::put_case;
 pub use line::put_number;
@@ -17,6 +16,7 @@ pub use line::put_open;
 pub use line::put_text;
 pub use line::put_values;
 pub use line::put_word;
+pub use text::least;
 
 // The bytes of a case, by place; or the end of the stream.
 pub enum Case {
@@ -173,11 +173,31 @@ pub fn number_in(s: &[u8]) -> u64 {
     }
 }
 
-// Writes what is answered once the buffer is half full, and answers how much of it is used then.
+// Writes what is answered once the buffer is half full, and answers how much of it is used then. What cannot be written stays.
 pub fn flush(out: &[u8], used: usize) -> usize {
     if used <= out.len() / 2 {
         return used;
     }
-    write_front(out, used);
-    0
+    if write_front(out, used) {
+        return 0;
+    }
+    used
+}
+
+// Reads standard input. A read that fails ends it, and `finish` meets it again.
+pub fn read_input(buf: &mut [u8]) -> usize {
+    match console::read_input(buf) {
+        Input::Read(n) => n,
+        Input::Failed => 0,
+    }
+}
+
+// The last act of a program that answers all of standard input: it fails where no more can be read or the last answers were not
+// written, and is not whole where something is left to be read.
+pub fn finish(written: bool) {
+    let mut more = [0u8; 1];
+    match console::read_input(&mut more) {
+        Input::Read(n) => console::finish(written, n == 0, b"replay: writing failed\n"),
+        Input::Failed => console::fail(b"replay: reading failed\n"),
+    }
 }

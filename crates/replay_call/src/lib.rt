@@ -1,17 +1,19 @@
 // One call of the writer made twice on outputs filled beforehand: by its own method and by `command`. Both must answer and write the
-// same, and leave every byte that is not theirs. Nothing is promised of these but that they are safe and end.
+// same, and leave every byte that is not theirs. A header's call is made once. Nothing is promised of these but that they are safe and end.
 use command::Command;
 use command::Open;
 use command::Refusal;
+use vcd_state::HeadRead;
 use write::Added;
 use write::Writer;
 use write::Written;
+use write_header::HeaderWritten;
 
 // What the outputs are filled with; no text that may be written has it.
 const MARK: u8 = 0xff;
 
 // An answer: the refusal's number or 0, the count, the state afterwards, and the id that was given or 0.
-pub struct Told {
+pub struct Outcome {
     pub refusal: u64,
     pub count: usize,
     pub state: Writer,
@@ -27,9 +29,9 @@ fn fill(s: &mut [u8]) {
 }
 
 // After a refusal the state is the one before.
-fn of_written(w: Writer, r: Written) -> Told {
+fn of_written(w: Writer, r: Written) -> Outcome {
     match r {
-        Written::Bytes(count, state) => Told {
+        Written::Bytes(count, state) => Outcome {
             refusal: 0,
             count,
             state,
@@ -39,9 +41,9 @@ fn of_written(w: Writer, r: Written) -> Told {
     }
 }
 
-fn of_added(w: Writer, r: Added) -> Told {
+fn of_added(w: Writer, r: Added) -> Outcome {
     match r {
-        Added::Bytes(count, state, id) => Told {
+        Added::Bytes(count, state, id) => Outcome {
             refusal: 0,
             count,
             state,
@@ -51,8 +53,26 @@ fn of_added(w: Writer, r: Added) -> Told {
     }
 }
 
-fn refused(state: Writer, refusal: u64) -> Told {
-    Told {
+// A header that is refused may have written commands before.
+fn of_header(r: HeaderWritten) -> Outcome {
+    match r {
+        HeaderWritten::Bytes(count, state) => Outcome {
+            refusal: 0,
+            count,
+            state,
+            id: 0,
+        },
+        HeaderWritten::Refused(e, count, state) => Outcome {
+            refusal: e.number(),
+            count,
+            state,
+            id: 0,
+        },
+    }
+}
+
+fn refused(state: Writer, refusal: u64) -> Outcome {
+    Outcome {
         refusal,
         count: 0,
         state,
@@ -61,7 +81,7 @@ fn refused(state: Writer, refusal: u64) -> Told {
 }
 
 // Fills the output and makes the call by its own method; `call` tells apart those that write the same command.
-pub fn by_method(w: Writer, src: &[u8], call: u64, k: Command, out: &mut [u8]) -> Told {
+pub fn by_method(w: Writer, src: &[u8], call: u64, k: Command, out: &mut [u8]) -> Outcome {
     fill(out);
     match call {
         6 => of_written(w, add_module(w, src, k, out)),
@@ -72,9 +92,18 @@ pub fn by_method(w: Writer, src: &[u8], call: u64, k: Command, out: &mut [u8]) -
 }
 
 // Fills the output and makes the call by `command`.
-pub fn by_command(w: Writer, src: &[u8], k: Command, out: &mut [u8]) -> Told {
+pub fn by_command(w: Writer, src: &[u8], k: Command, out: &mut [u8]) -> Outcome {
     fill(out);
     of_written(w, w.command(src, k, out))
+}
+
+// Fills the output and makes a header's call, over the words of a head and of a table.
+pub fn by_header(w: Writer, src: &[u8], head: &[u64], rows: &[u64], out: &mut [u8]) -> Outcome {
+    fill(out);
+    match vcd_state::head_of(head) {
+        HeadRead::Is(h, n) => of_header(write_header::header(w, src, h, rows, n, out)),
+        HeadRead::Bad => refused(w, 25),
+    }
 }
 
 fn add_module(w: Writer, src: &[u8], k: Command, out: &mut [u8]) -> Written {
@@ -120,7 +149,7 @@ fn own(w: Writer, src: &[u8], k: Command, out: &mut [u8]) -> Written {
 }
 
 // Whether both ways answered and wrote the same, and left the bytes after the count.
-pub fn sound(a: Told, b: Told, one: &[u8], two: &[u8]) -> bool {
+pub fn sound(a: Outcome, b: Outcome, one: &[u8], two: &[u8]) -> bool {
     if a.refusal != b.refusal || a.count != b.count {
         return false;
     }
@@ -152,7 +181,7 @@ fn open_number(o: Open) -> u64 {
 }
 
 // Whether every byte from `at` on is as it was.
-fn is_marked(s: &[u8], at: usize) -> bool {
+pub fn is_marked(s: &[u8], at: usize) -> bool {
     let mut i = at;
     while i < s.len() {
         if s[i] != MARK {

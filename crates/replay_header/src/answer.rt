@@ -11,7 +11,6 @@ use replay::line::Shown;
 use replay::line::Word;
 use replay::put;
 use replay::put_byte;
-use replay::put_number;
 use replay::put_word;
 use rows::Parent;
 use rows::Row;
@@ -202,26 +201,31 @@ fn timescale_line(k: KeptTimescale) -> Line {
 }
 
 fn put_ended(out: &mut [u8], at: usize, s: &[u8], e: Ended, c: Cursor) -> usize {
-    let o = line::put_line(out, at, s, ended_line(e, c));
-    let p = put_number(out, o, c.place as u64);
-    let q = put_number(out, p, bit(c.pending));
     let sim = c.sim;
-    let r = replay::put_open(out, q, sim);
-    put_byte(out, r, b'\n')
+    let o = line::put_line(out, at, s, ended_line(e, c));
+    let p = replay::put_open(out, o, sim);
+    put_byte(out, p, b'\n')
 }
 
 // How the header ended, and the reader's line then.
 fn ended_line(e: Ended, c: Cursor) -> Line {
     match e {
-        Ended::Whole => line::worded(line::HEADER, Word::Number(c.line)),
-        Ended::Refused(r, at) => Line {
-            name: line::REFUSED,
-            kind: Word::Number(r.number()),
-            first: Word::Number(at),
-            second: Word::None,
-            shown: Shown::None,
-            last: Word::None,
-        },
+        Ended::Whole => placed_line(line::HEADER, Word::Number(c.line), Word::None, c),
+        Ended::Refused(r, at) => {
+            placed_line(line::REFUSED, Word::Number(r.number()), Word::Number(at), c)
+        }
+    }
+}
+
+// A line that ends in the cursor's place and whether a newline is pending.
+fn placed_line(name: u64, kind: Word, first: Word, c: Cursor) -> Line {
+    Line {
+        name,
+        kind,
+        first,
+        second: Word::Number(c.place as u64),
+        shown: Shown::None,
+        last: Word::Number(bit(c.pending)),
     }
 }
 

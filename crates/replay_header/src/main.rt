@@ -11,7 +11,7 @@ fn main() {
     let mut out = buffer();
     let mut table = table();
     let used = answer_all(&mut input, &mut table, &mut out);
-    replay::write_front(&out, used);
+    replay::finish(replay::write_front(&out, used));
 }
 
 // Zeros: room for the longest case, and for answers until they are written.

@@ -10,7 +10,7 @@ fn main() {
     let mut input = buffer();
     let mut out = buffer();
     let n = replay::read_input(&mut input);
-    answer_all(replay::front(&input, n), &mut out);
+    replay::finish(answer_all(replay::front(&input, n), &mut out));
 }
 
 // Zeros: room for a chunk of cases, and for more than half of it twice.
@@ -20,8 +20,8 @@ fn buffer() -> [u8; 131072]
     [0; 131072]
 }
 
-// Writes what is answered whenever the output is half full, and at the end.
-fn answer_all(input: &[u8], out: &mut [u8]) {
+// Writes what is answered whenever the output is half full, and at the end; answers whether the last of it was written.
+fn answer_all(input: &[u8], out: &mut [u8]) -> bool {
     let mut at: usize = 0;
     let mut used: usize = 0;
     let mut number: u64 = 0;
@@ -39,5 +39,5 @@ fn answer_all(input: &[u8], out: &mut [u8]) {
             used = 0;
         }
     }
-    replay::write_front(out, used);
+    replay::write_front(out, used)
 }

@@ -12,7 +12,7 @@ fn main() {
     let mut one = lent();
     let mut two = lent();
     let used = answer_all(&mut input, &mut one, &mut two, &mut out);
-    replay::write_front(&out, used);
+    replay::finish(replay::write_front(&out, used));
 }
 
 // Zeros: room for the longest case, and for answers until they are written.

@@ -26,7 +26,6 @@ use Rattle.write.specs.declared.Writer.{Writer}
 use Rattle.write.specs.declared.Written.{Written}
 use Rattle.write.proofs.Ids.{id-some}
 use Rattle.write.proofs.Outcomes.{laid-out}
-use Rattle.write.proofs.Spelling.{value-name}
 use Rattle.rewrite.specs.Rewrite.{wroteOf, stepOf, asSlow, Inside, laidOf}
 use Rattle.rewrite.specs.declared.Step.{Step}
 use Rattle.rewrite.proofs.Turn.{command-placed, Steps, Answers, command-steps}
@@ -96,7 +95,7 @@ module _ (s o : List ℕ) (c : Cursor) (w : Writer) (v : Valid s c) (e : ℕ) (r
   unfolding stateAfter layout
   scalar-steps i x put =
       let name = lower-byte (getD s (c .place) 0) (x .value) (x .means) in
-      steps _ (x .change) put (rw (known i (x .id))) refl (rw (name, ← value-name (x .value)))
+      steps _ (x .change) put (rw (known i (x .id))) refl (rw (name))
 
   pub vector-steps : (i stop : ℕ) → ReadsVector s (c .place) stop e i → Laid (vectorText (part s (valuesAt (c .place) stop)) i) o p left → Answers s o c w r left
   unfolding stateAfter layout

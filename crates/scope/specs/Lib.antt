@@ -1,3 +1,4 @@
+pub mod Ieee
 pub mod Types
 pub mod Index
 pub mod Numbers

@@ -377,3 +377,23 @@ pub struct Var {
     pub reference: Text,
     pub index: ReferenceIndex,
 }
+
+impl Var {
+    pub fn new(
+        var_type: VarType,
+        size: u32,
+        code: IdCode,
+        reference: Text,
+        index: ReferenceIndex,
+    ) -> Var
+        ensures { λ r. ⌜ r ≡ record { «var_type» = «var_type»; size = size; code = code; reference = reference; index = index } ⌝ }
+    {
+        Var {
+            var_type,
+            size,
+            code,
+            reference,
+            index,
+        }
+    }
+}

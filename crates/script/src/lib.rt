@@ -20,6 +20,20 @@ pub fn number_at(line: &[u8], k: u64) -> u64 {
     replay::number_in(word(line, k))
 }
 
+// Stores the numbers of the words from the k-th on, as many as fit, and answers how many words there were.
+pub fn numbers_from(line: &[u8], k: u64, into: &mut [u64]) -> usize {
+    let mut n: usize = 0;
+    while n < into.len() {
+        let at = std::num::wrapping_add_u64(k, n as u64);
+        if replay::words_from(line, at).len() == 0 {
+            return n;
+        }
+        into[n] = number_at(line, at);
+        n += 1;
+    }
+    n
+}
+
 fn narrow_at(line: &[u8], k: u64) -> u32 {
     let n = number::parse_u32(word(line, k));
     match n {

@@ -8,11 +8,12 @@ use lib.Dec.{ltb, eqb}
 use lib.ListN.{length, take, drop, length-take, length-drop}
 use Rattle.text.specs.Bytes.{starts, upTo}
 use Rattle.command.specs.Words.{endMark}
+use Rattle.text.specs.Texts.{limit}
 use Rattle.text.specs.declared.Text.{Text as Piece}
 use Rattle.command.specs.declared.Refusal.the-variants.{UnexpectedEof}
 use Rattle.text.proofs.Lists.{by-test}
 use Rattle.text.proofs.Equal.{starts-long}
-use Rattle.token.specs.Read.{Bound, passed, beyond, Valid, endRead, after, rest, gap, word, skipped, wordToken, wordHere, token, textTo, textFrom}
+use Rattle.token.specs.Read.{Bound, most, unlimited, passed, beyond, Valid, endRead, after, rest, gap, word, skipped, wordToken, wordHere, token, textTo, textFrom}
 use Rattle.token.specs.declared.Cursor.{Cursor}
 use Rattle.token.specs.declared.Token.{Token}
 use Rattle.token.specs.declared.Token.the-variants.{Word, Refused}
@@ -30,6 +31,11 @@ token-eof w r c n h e = rw (le-ltb (passed n w) (length w) h, eq-eqb (length w) 
 pub token-text : (w r : List ℕ) (c : Cursor) (n : Bound) → length w ≤ passed n w → length w < length r → wordToken w r c n ≡ Word (record { start = c .place; len = length w }) (after (take (length w + 1) r) c)
 unfolding wordToken
 token-text w r c n h e = rw (le-ltb (passed n w) (length w) h, ne-eqb (length w) (length r) (λ q. omega arith))
+
+-- a word that passes both bounds is the same token by either
+word-same : (w r : List ℕ) (c : Cursor) (n m : Bound) → length w ≤ passed n w → length w ≤ passed m w → wordToken w r c n ≡ wordToken w r c m
+unfolding wordToken
+word-same w r c n m h k = rw (le-ltb (passed n w) (length w) h, le-ltb (passed m w) (length w) k)
 
 -- ---- within the input
 pub record Within (s : List ℕ) (t : Piece) : Type 0 where
@@ -92,3 +98,11 @@ text-kept s c v =
     let left = length-drop (length l) (rest s c) in
     rw h (from-trans s c (after l c) _ f (from-after s endMark (after l c) (f .valid) (omega (arith, place-after l c, v .within))), record { inside = omega (arith, v .within) }))
     (λ h. rw h (from-end s c (after l c) f))
+
+-- in a valid input no word is longer than the input may be
+pub no-limit : (s : List ℕ) (c : Cursor) → Valid s c → token s c unlimited ≡ token s c (most limit)
+unfolding token wordHere
+no-limit s c v =
+    let d = skipped s c in
+    word-same (word (rest s d)) (rest s d) d unlimited (most limit) (omega arith)
+    (omega (arith, word-le (rest s d), length-drop (d .place) s, v .short))

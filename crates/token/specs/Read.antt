@@ -57,10 +57,11 @@ word (b ∷ r) = cond (isBlank b) [] (b ∷ word r)
 unfoldable pub skipped : List ℕ → Cursor → Cursor
 skipped s c = after (gap (rest s c)) c
 
--- what is judged of a token as each byte is read: that there are not too many, or that each is a vector's value
+-- what is judged of a token as each byte is read: that there are not too many, that each is a vector's value, or nothing
 pub data Bound : Type 0 where
   most : ℕ → Bound
   values : Bound
+  unlimited : Bound
 
 -- how many values a list begins with
 unfoldable pub valuesIn : List ℕ → ℕ
@@ -71,10 +72,12 @@ valuesIn (b ∷ r) = cond (isValue b) (suc (valuesIn r)) 0
 abbrev pub passed : Bound → List ℕ → ℕ
 passed (most n) w = n
 passed values w = valuesIn w
+passed unlimited w = length w
 
 abbrev pub beyond : Bound → Refusal
 beyond (most n) = Refusal.TokenTooLong
 beyond values = Refusal.InvalidValueChar
+beyond unlimited = Refusal.TokenTooLong
 
 -- the word w that starts here, where r is left to read. It is refused at the first byte that does not pass;
 -- a word that the input's end ends is refused; else the blank after it is read too.

@@ -1,4 +1,6 @@
 // Whether a table of rows is good (23): its rows are rows, in tree order, not too many and not too deep.
+pub mod place;
+
 ghost use mathlib.Core.Path.{_≡_};
 ghost use Prim.Native.Nat.{_≤_, _<_};
 ghost use Rattle.rows.specs.Good.{isGoodTable};

@@ -18,7 +18,11 @@ use value::vector::Bit;
 fn main() {
     let mut out = [0u8; 8192];
     let used = report(&mut out);
-    replay::write_front(&out, used);
+    console::finish(
+        replay::write_front(&out, used),
+        true,
+        b"unit_tests: writing failed\n",
+    );
 }
 
 fn report(out: &mut [u8]) -> usize {

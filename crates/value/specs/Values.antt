@@ -6,14 +6,24 @@ use mathlib.Core.List.{List, [], _∷_, _++_, map}
 use lib.Dec.{ltb, leb, eqb}
 use lib.ListN.{length, drop, getD, replicate}
 use Rattle.text.specs.Bytes.{bytes, has}
+use Rattle.value.specs.Numbers.{valueNumber}
 use Rattle.value.specs.declared.Value.{Value}
 use Rattle.value.specs.declared.ParsedValue.{ParsedValue}
 use Rattle.value.specs.declared.vector.Bit.{Bit}
 use Rattle.value.specs.declared.vector.Written.{Written}
 
--- the bytes that mean a value
+-- The values' characters, said here alone: the bytes that mean a value, in the order of `valueNumber`; it is written as the first of them.
 abbrev pub values : List (String × Value)
 values = ("0", Value.V0) ∷ ("1", Value.V1) ∷ ("xX", Value.X) ∷ ("zZ", Value.Z) ∷ []
+
+-- all of them, and those that are written
+abbrev pub lettersOf : List (String × Value) → List ℕ
+lettersOf [] = []
+lettersOf (e ∷ r) = bytes (e .0) ++ lettersOf r
+
+abbrev pub firstsOf : List (String × Value) → List ℕ
+firstsOf [] = []
+firstsOf (e ∷ r) = getD (bytes (e .0)) 0 0 ∷ firstsOf r
 
 abbrev pub valueIn : List (String × Value) → ℕ → ParsedValue
 valueIn [] b = ParsedValue.Invalid
@@ -32,20 +42,14 @@ abbrev pub ofBool : Bool → Value
 ofBool true = Value.V1
 ofBool false = Value.V0
 
--- the name that a value is written by, and its byte
-abbrev pub valueName : Value → String
-valueName Value.V0 = "0"
-valueName Value.V1 = "1"
-valueName Value.X = "x"
-valueName Value.Z = "z"
-
+-- the byte that a value is written as
 abbrev pub valueByte : Value → ℕ
-valueByte v = getD (bytes (valueName v)) 0 0
+valueByte v = getD (firstsOf values) (valueNumber v) 0
 
 -- ---- vectors
 -- does a byte mean a value? do all of a text's?
 unfoldable pub isValue : ℕ → Bool
-isValue b = has (bytes "01xXzZ") b
+isValue b = has (lettersOf values) b
 
 unfoldable pub areValues : List ℕ → Bool
 areValues [] = true

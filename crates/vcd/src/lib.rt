@@ -1,8 +1,10 @@
-// The library for C and Rust: its fourteen calls, each that of `read_calls` or `write_calls`, over numbers and lent arrays alone.
+// The library for C and Rust: its fifteen calls, each that of `read_calls`, `list_calls` or `write_calls`, over numbers and lent arrays
+// alone.
 ghost use mathlib.Core.Path.{_≡_};
 ghost use Rattle.find.specs.Find.{found as foundRow};
 ghost use Rattle.find.specs.declared.Kind.{Kind};
 ghost use Rattle.idcode.specs.Id.{parseId};
+ghost use Rattle.list_calls.specs.Listings.{listCall, listOnCall};
 ghost use Rattle.read_calls.specs.Reading.{
   nextCall,
   readCall,
@@ -11,8 +13,8 @@ ghost use Rattle.read_calls.specs.Reading.{
   rowCopied,
   isRowCall,
   isChangeCall,
-  foundNumber,
-  listCall,
+  foundStatus,
+  foundAfter,
 };
 ghost use Rattle.widen.specs.Widen.{widenAnswer, widenBytes};
 ghost use Rattle.write_calls.specs.Writing.{
@@ -81,18 +83,32 @@ pub extern "C" fn vcd_row(rows: &[u64], i: usize, row: &mut [u64]) -> u64
 
 // The row of the scope at a path of names, parted by one space; NONE where there is none.
 #[no_mangle]
-pub extern "C" fn vcd_find_scope(input: &[u8], rows: &[u64], count: usize, path: &[u8]) -> u64
-    ensures { λ r. ⌜ r ≡ foundNumber (foundRow (now (input .entry)) Kind.Scope (now (rows .entry)) count (now (path .entry))) ⌝ }
+pub extern "C" fn vcd_find_scope(
+    input: &[u8],
+    rows: &[u64],
+    count: usize,
+    path: &[u8],
+    row: &mut u64,
+) -> u64
+    ensures status { λ r. ⌜ r ≡ foundStatus (foundRow (now (input .entry)) Kind.Scope (now (rows .entry)) count (now (path .entry))) ⌝ }
+    ensures row { λ _. ⌜ now (row .exit) ≡ foundAfter (now (row .entry)) (foundRow (now (input .entry)) Kind.Scope (now (rows .entry)) count (now (path .entry))) ⌝ }
 {
-    read_calls::find_scope(input, rows, count, path)
+    read_calls::find_scope(input, rows, count, path, row)
 }
 
 // The row of the variable at a path of names, parted by one space; NONE where there is none.
 #[no_mangle]
-pub extern "C" fn vcd_find_var(input: &[u8], rows: &[u64], count: usize, path: &[u8]) -> u64
-    ensures { λ r. ⌜ r ≡ foundNumber (foundRow (now (input .entry)) Kind.Var (now (rows .entry)) count (now (path .entry))) ⌝ }
+pub extern "C" fn vcd_find_var(
+    input: &[u8],
+    rows: &[u64],
+    count: usize,
+    path: &[u8],
+    row: &mut u64,
+) -> u64
+    ensures status { λ r. ⌜ r ≡ foundStatus (foundRow (now (input .entry)) Kind.Var (now (rows .entry)) count (now (path .entry))) ⌝ }
+    ensures row { λ _. ⌜ now (row .exit) ≡ foundAfter (now (row .entry)) (foundRow (now (input .entry)) Kind.Var (now (rows .entry)) count (now (path .entry))) ⌝ }
 {
-    read_calls::find_var(input, rows, count, path)
+    read_calls::find_var(input, rows, count, path, row)
 }
 
 // Writes the command of a record, whose texts stand in `src`, and counts its bytes.
@@ -164,7 +180,26 @@ pub extern "C" fn vcd_list(
     ensures rows { λ _. ⌜ now (rows .exit) ≡ listCall (now (input .entry)) (now (cursor .entry)) code (now (rows .entry)) (now (count .entry)) .table ⌝ }
     ensures count { λ _. ⌜ now (count .exit) ≡ listCall (now (input .entry)) (now (cursor .entry)) code (now (rows .entry)) (now (count .entry)) .count ⌝ }
 {
-    read_calls::list(input, cursor, code, rows, count)
+    list_calls::list(input, cursor, code, rows, count)
+}
+
+// The same from where a listing stopped: `since` is the last time before the cursor, and afterwards the last one that was read.
+#[no_mangle]
+pub extern "C" fn vcd_list_on(
+    input: &[u8],
+    cursor: &mut [u64],
+    since: &mut [u64],
+    code: u64,
+    rows: &mut [u64],
+    count: &mut u64,
+) -> u64
+    ensures status { λ r. ⌜ r ≡ listOnCall (now (input .entry)) (now (cursor .entry)) (now (since .entry)) code (now (rows .entry)) (now (count .entry)) .status ⌝ }
+    ensures cursor { λ _. ⌜ now (cursor .exit) ≡ listOnCall (now (input .entry)) (now (cursor .entry)) (now (since .entry)) code (now (rows .entry)) (now (count .entry)) .cursor ⌝ }
+    ensures since { λ _. ⌜ now (since .exit) ≡ listOnCall (now (input .entry)) (now (cursor .entry)) (now (since .entry)) code (now (rows .entry)) (now (count .entry)) .since ⌝ }
+    ensures rows { λ _. ⌜ now (rows .exit) ≡ listOnCall (now (input .entry)) (now (cursor .entry)) (now (since .entry)) code (now (rows .entry)) (now (count .entry)) .table ⌝ }
+    ensures count { λ _. ⌜ now (count .exit) ≡ listOnCall (now (input .entry)) (now (cursor .entry)) (now (since .entry)) code (now (rows .entry)) (now (count .entry)) .count ⌝ }
+{
+    list_calls::list_on(input, cursor, since, code, rows, count)
 }
 
 // Copies row `i` of a listing; BAD_PLACE where there is none, or where its words are no row.

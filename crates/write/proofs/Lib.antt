@@ -1,4 +1,3 @@
 -- `Spelling` has a value's one byte, `Ids` the ids that may be written, `Outcomes` the ways to answer, one law for each.
-pub mod Spelling
 pub mod Ids
 pub mod Outcomes

@@ -15,7 +15,7 @@ use Rattle.scope.specs.Types.{scopeName}
 use Rattle.text.specs.Bytes.{bytes}
 use Rattle.command.specs.Words.{spoken, endMark}
 use Rattle.timescale.specs.Ieee.{unitName}
-use Rattle.value.specs.Values.{valueName}
+use Rattle.value.specs.Values.{valueByte}
 use Rattle.emit.specs.Put.{concat}
 use Rattle.emit_var.specs.Define.{varWords}
 use Rattle.write_check.specs.Check.{isRemark, isName, isVector, isShortReal}
@@ -31,7 +31,7 @@ words upscope = spoken Word.Upscope ∷ bytes " " ∷ endMark ∷ bytes "\n" ∷
 words (varDef k n i t x) = varWords k n i t x
 words enddefinitions = spoken Word.Enddefinitions ∷ bytes " " ∷ endMark ∷ bytes "\n" ∷ []
 words (timestamp n) = bytes "#" ∷ decimalOf n ∷ bytes "\n" ∷ []
-words (change i (scalar x)) = bytes (valueName x) ∷ idText (i .0) ∷ bytes "\n" ∷ []
+words (change i (scalar x)) = (valueByte x ∷ []) ∷ idText (i .0) ∷ bytes "\n" ∷ []
 words (change i (vector v)) = bytes "b" ∷ v ∷ bytes " " ∷ idText (i .0) ∷ bytes "\n" ∷ []
 words (change i (real t)) = bytes "r" ∷ t ∷ bytes " " ∷ idText (i .0) ∷ bytes "\n" ∷ []
 words (change i (string t)) = bytes "s" ∷ t ∷ bytes " " ∷ idText (i .0) ∷ bytes "\n" ∷ []

@@ -148,7 +148,7 @@ impl Writer {
         if !write_check::is_remark(v) {
             return Written::Refused(Refusal::NotWritable);
         }
-        self.laid(emit::emit_closed(word, b"\n    ", v, b"", b"", b"\n", out))
+        self.laid(emit::emit_closed(word, b"\n    ", v, b"", b"", b'\n', out))
     }
 
     // Writes a `$timescale` command.
@@ -168,7 +168,7 @@ impl Writer {
             emit::front(&digits, n.len),
             b" ",
             emit::front(&name, u.len),
-            b" ",
+            b' ',
             out,
         ))
     }
@@ -197,7 +197,7 @@ impl Writer {
             emit::front(&name, k.len),
             b" ",
             v,
-            b" ",
+            b' ',
             out,
         ))
     }
@@ -218,7 +218,7 @@ impl Writer {
             return Written::Refused(Refusal::NotWritable);
         }
         let w = self.at_depth(depth - 1);
-        w.laid(emit::emit_closed(&command::UPSCOPE, b" ", b"", b"", b"", b"", out))
+        w.laid(emit::emit_bare(&command::UPSCOPE, out))
     }
 
     // Writes a `$var` command with a specified id.
@@ -304,7 +304,7 @@ impl Writer {
         if 0 < self.depth {
             return Written::Refused(Refusal::NotWritable);
         }
-        self.laid(emit::emit_closed(&command::ENDDEFINITIONS, b" ", b"", b"", b"", b"", out))
+        self.laid(emit::emit_bare(&command::ENDDEFINITIONS, out))
     }
 
     // Writes a `#xxx` timestamp.
@@ -355,9 +355,7 @@ impl Writer {
         if !write_check::is_real(number) {
             return Written::Refused(Refusal::NotWritable);
         }
-        let i = id.spell();
-        let code = i.bytes;
-        self.laid(emit::emit(b"r", number, b" ", emit::front(&code, i.len), b"\n", out))
+        self.laid(emit::emit_text(b'r', number, id, out))
     }
 
     // Writes a change to a string variable.
@@ -374,9 +372,7 @@ impl Writer {
         if !write_check::is_name(string) {
             return Written::Refused(Refusal::NotWritable);
         }
-        let i = id.spell();
-        let code = i.bytes;
-        self.laid(emit::emit(b"s", string, b" ", emit::front(&code, i.len), b"\n", out))
+        self.laid(emit::emit_text(b's', string, id, out))
     }
 
     // Writes the beginning of a simulation command.

@@ -5,11 +5,10 @@ use mathlib.Core.Bool.{cond}
 use mathlib.Core.List.{List}
 use lib.Dec.{eqb}
 use lib.ListN.{length}
-use Rattle.command.specs.Refusals.{numberOf}
+use Rattle.command.specs.Refusals.{numberOf, idRefusal}
 use Rattle.idcode.specs.Id.{idText}
 use Rattle.idcode.specs.declared.Parsed.{Parsed}
 use Rattle.widen.specs.declared.Widened.{Widened}
-use Rattle.parser_part.specs.Plan.{idRefusal}
 use Rattle.record.specs.Record.{recordAt}
 use Rattle.record.specs.declared.Recorded.{Recorded}
 use Rattle.rewrite.specs.Rewrite.{Outcome as RewriteOutcome, rewriteOf, filled as rewriteFilled}

@@ -3,7 +3,6 @@
 // the wrong length, or words that are no state, are refused by BAD_PLACE with nothing changed.
 use command::Refusal;
 use idcode::IdCode;
-use idcode::InvalidIdCode;
 use idcode::Parsed;
 use record::Recorded;
 use text::Placed;
@@ -17,7 +16,6 @@ use write_header::HeaderWritten;
 ghost use mathlib.Core.Path.{_≡_};
 ghost use lib.ListN.{length};
 ghost use Rattle.idcode.specs.Id.{parseId};
-ghost use Rattle.parser_part.specs.Plan.{idRefusal};
 ghost use Rattle.widen.specs.Widen.{widenAnswer, widenBytes};
 ghost use Rattle.write_calls.specs.Writing.{
   commandCall,
@@ -238,16 +236,6 @@ pub fn id_code(text: &[u8], code: &mut u64) -> u64
             *code = i.0;
             OK
         }
-        Parsed::Refused(e) => id_refusal(e).number(),
-    }
-}
-
-fn id_refusal(e: InvalidIdCode) -> Refusal
-    ensures { λ r. ⌜ r ≡ idRefusal e ⌝ }
-{
-    match e {
-        InvalidIdCode::Empty => Refusal::IdEmpty,
-        InvalidIdCode::InvalidChars => Refusal::IdInvalidChars,
-        InvalidIdCode::TooLong => Refusal::IdTooLong,
+        Parsed::Refused(e) => Refusal::from_id(e).number(),
     }
 }

@@ -6,7 +6,8 @@ use lib.Dec.{leb, eqb}
 use lib.ListN.{length}
 use Rattle.command.specs.Words.{endMark}
 use Rattle.real.specs.Real.{isReal}
-use Rattle.text.specs.Bytes.{bytes, has, holds, isToken}
+use Rattle.text.specs.Bytes.{has, holds, isToken}
+use Rattle.value.specs.Values.{values, firstsOf}
 use Rattle.utf8.specs.Utf8.{validUtf8}
 use Rattle.white_space.specs.WhiteSpace.{trimmed}
 
@@ -22,10 +23,10 @@ isRemark t = validUtf8 t && isTrimmed t && not (holds endMark t)
 unfoldable pub isName : List ℕ → Bool
 isName t = isToken t && validUtf8 t
 
--- 0 1 x z
+-- values as they are written
 unfoldable pub areLower : List ℕ → Bool
 areLower [] = true
-areLower (b ∷ v) = has (bytes "01xz") b && areLower v
+areLower (b ∷ v) = has (firstsOf values) b && areLower v
 
 -- at least one
 unfoldable pub isVector : List ℕ → Bool

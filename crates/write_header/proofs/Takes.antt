@@ -117,7 +117,7 @@ abbrev pub KeptSized : KeptTimescale → Type 0
 KeptSized KeptTimescale.None = Unit {0}
 KeptSized (KeptTimescale.Is n u) = n < 2 ^ 32
 
-word-at : (table : List ℕ) (j : ℕ) → AreWords table → getD table j 0 < 2 ^ 64
+pub word-at : (table : List ℕ) (j : ℕ) → AreWords table → getD table j 0 < 2 ^ 64
 word-at [] j x = omega arith
 word-at (w ∷ table) zero x = x .0
 word-at (w ∷ table) (suc j) x = word-at table j (x .1)
@@ -129,7 +129,7 @@ signed-fits w h =
     (λ e. rw e (record { sfits = ltb-true w (2 ^ 31) e }))
     (λ e. rw e (record { sfits = omega (arith, h, ltb-false w (2 ^ 31) e) }))
 
-index-sized : (f a b : ℕ) → isIndex f a b ≡ true → SizedIndex (indexOf f a b)
+pub index-sized : (f a b : ℕ) → isIndex f a b ≡ true → SizedIndex (indexOf f a b)
 unfolding isIndex indexOf
 index-sized f a b e =
     by-test (eqb f 0) (λ q. rw q tt)

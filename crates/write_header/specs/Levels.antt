@@ -11,9 +11,10 @@ use Rattle.rows.specs.Rows.{parentOf, rowAt}
 use Rattle.text.specs.Texts.{tooLong}
 use Rattle.write.specs.declared.Writer.{Writer}
 use Rattle.tree.specs.Chain.{parentAt, rest}
+use Rattle.tree.specs.Place.{rowOutside}
 use Rattle.write_header.specs.Meanings.{rowMeanings}
 use Rattle.write_header.specs.Pour.{pour, stop, Writes}
-use Rattle.write_header.specs.Written.{Outcome, rowOutside}
+use Rattle.write_header.specs.Written.{Outcome}
 use Rattle.write_header.specs.declared.Wrote.{Wrote}
 
 -- no text is misplaced

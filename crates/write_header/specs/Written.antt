@@ -16,6 +16,7 @@ use Rattle.rows.specs.declared.Row.{Row}
 use Rattle.write.specs.Layout.{layout, writable, stateAfter}
 use Rattle.write.specs.Run.{layouts, statesAfter, taken}
 use Rattle.write.specs.declared.Writer.{Writer}
+use Rattle.tree.specs.Place.{someOutside}
 use Rattle.write_header.specs.Meanings.{headerMeanings}
 use Rattle.write_header.specs.declared.HeaderWritten.{HeaderWritten}
 
@@ -23,16 +24,6 @@ use Rattle.write_header.specs.declared.HeaderWritten.{HeaderWritten}
 abbrev pub keptOutside : List ℕ → KeptText → Bool
 keptOutside s KeptText.None = false
 keptOutside s (KeptText.Is t) = not (isWithin s t)
-
-abbrev pub rowOutside : List ℕ → Row → Bool
-rowOutside s (Row.Scope p k t) = not (isWithin s t)
-rowOutside s (Row.Var p v) = not (isWithin s (v .reference))
-rowOutside s (Row.Comment p t) = not (isWithin s t)
-rowOutside s Row.None = false
-
-unfoldable pub someOutside : List ℕ → List Row → Bool
-someOutside s [] = false
-someOutside s (r ∷ rs) = rowOutside s r || someOutside s rs
 
 unfoldable pub misplaced : List ℕ → Header → List Row → Bool
 misplaced s h rs = tooLong s || keptOutside s (h .date) || keptOutside s (h .version) || someOutside s rs

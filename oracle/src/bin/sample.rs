@@ -10,9 +10,9 @@ const POOL: usize = 30_000;
 const WANTED: usize = 1_500;
 /// The first are all taken: they hold each simulator's dump whole.
 const FIRST: usize = 100;
-/// A sample of whole dumps is no longer than what the port's program takes at once: of those that are not fixed it has
-/// only short ones, and fewer for a mark.
-const MOST: usize = 1 << 17;
+/// A sample of whole dumps has so many bytes beside the longest, which are fixed: of those that are not fixed it has only
+/// short ones, and fewer for a mark.
+const MOST: usize = 1 << 16;
 const SHORT_DUMP: usize = 180;
 const OFTEN_DUMP: usize = 3;
 /// How often each mark is wanted.
@@ -61,7 +61,7 @@ fn fitting(kind: Kind, pool: &[Vec<u8>], fixed: usize) -> Vec<usize> {
     let mut seen: HashMap<String, usize> = HashMap::new();
     let mut taken = Vec::new();
     let mut spare = Vec::new();
-    let mut room = MOST;
+    let mut room = MOST + pool[..fixed].iter().map(|case| framed(case)).filter(|bytes| *bytes > MOST).sum::<usize>();
     for (n, case) in pool.iter().enumerate().filter(|(n, case)| *n < fixed || case.len() <= SHORT_DUMP) {
         let marks = marks(kind, case);
         if n < fixed || marks.iter().any(|mark| seen.get(mark).is_none_or(|times| *times < OFTEN_DUMP)) {

@@ -23,14 +23,15 @@ fn bare(data: &str) -> String {
     format!("$enddefinitions $end\n{data}")
 }
 
-/// The cases, and how many of them are recorded: the short ones and the first of the long ones.
+/// The cases, and how many of them are recorded: the short ones and the first of the long ones; of those that fill what a
+/// call is lent, only where it matters.
 pub fn all(kind: Kind) -> (Vec<Vec<u8>>, usize) {
     let own = [headers(), changes(), listings(), commands()].concat();
     let (long_dumps, short_dumps): (Vec<&[u8]>, Vec<&[u8]>) = DUMPS.iter().partition(|dump| dump.len() > LONG);
     let mut cases: Vec<Vec<u8>> = own.into_iter().map(String::into_bytes).collect();
     cases.extend(short_dumps.into_iter().map(<[u8]>::to_vec));
-    let recorded = cases.len() + 1;
-    cases.extend(long(kind).into_iter().map(String::into_bytes));
+    let recorded = cases.len() + if kind == Kind::List { 2 } else { 3 };
+    cases.extend(long().into_iter().map(String::into_bytes));
     cases.extend(long_dumps.into_iter().map(<[u8]>::to_vec));
     (cases, recorded)
 }
@@ -125,16 +126,10 @@ fn commands() -> Vec<String> {
     ]
 }
 
-/// Dumps of 65,536 bytes and of one more. One stream of cases takes no two of them.
-fn long(kind: Kind) -> Vec<String> {
+/// Dumps of one byte more than is taken and of as many as are, read and written.
+fn long() -> Vec<String> {
     let most = 65_536;
-    let too_long = padded(most + 1);
-    let mut dumps = vec![padded(most), written(most), written(most + 1), long_names()];
-    match kind {
-        Kind::List => dumps.splice(0..0, [too_long, remarks(most)]),
-        _ => dumps.splice(0..0, [remarks(most), too_long]),
-    };
-    dumps
+    vec![padded(most + 1), padded(most), remarks(most), written(most), written(most + 1), long_names()]
 }
 
 /// A dump of so many bytes: a long comment, and changes behind it.

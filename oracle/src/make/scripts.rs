@@ -3,7 +3,8 @@ use super::command::{size, Slot};
 use super::odd::odd;
 use crate::rng::Rng;
 use crate::script::{self, State};
-use crate::write::perform;
+use crate::table::{ROW, TOP};
+use crate::write::step;
 use std::fmt::Write;
 
 /// Texts for each sort of call.
@@ -91,7 +92,7 @@ fn index(rng: &mut Rng) -> String {
 
 /// A call's numbers, as a line of a script has them after the room.
 fn call(source: &Source, rng: &mut Rng) -> String {
-    let number = 1 + rng.below(18);
+    let number = 1 + rng.below(19);
     let rest = match number {
         1..=3 => source.text(REMARK, rng),
         4 => {
@@ -109,9 +110,75 @@ fn call(source: &Source, rng: &mut Rng) -> String {
         15 => format!("{} {}", id(rng), source.text(REAL, rng)),
         16 => format!("{} {}", id(rng), source.text(NAME, rng)),
         17 | 18 => (1 + rng.below(4)).to_string(),
+        19 => table(source, rng),
         _ => return number.to_string(),
     };
     format!("{number} {rest}")
+}
+
+/// The words of an index.
+fn index_words(rng: &mut Rng) -> String {
+    match rng.below(4) {
+        0 => format!("1 {} 0", rng.pick(&[0u32, 1, u32::MAX, 1 << 31])),
+        1 => format!("2 {} {}", rng.pick(&[7u32, 1 << 31]), rng.pick(&[0u32, u32::MAX - 3])),
+        _ => "0 0 0".to_string(),
+    }
+}
+
+fn row(source: &Source, parent: u64, rng: &mut Rng) -> (bool, String) {
+    let (name, remark) = (source.text(NAME, rng), source.text(REMARK, rng));
+    match rng.below(4) {
+        0 => (false, format!("3 {parent} 0 0 0 {remark} 0 0 0")),
+        1 => {
+            let (width, id) = (width(rng), id(rng));
+            (false, format!("2 {parent} {} {width} {id} {name} {}", rng.below(18), index_words(rng)))
+        }
+        _ => (true, format!("1 {parent} {} 0 0 {name} 0 0 0", rng.below(5))),
+    }
+}
+
+/// A header's head and table: rows in tree order, sometimes one past 64 scopes; then often a word changed, or too few
+/// or too many rows asked for.
+fn table(source: &Source, rng: &mut Rng) -> String {
+    let mut open = Vec::new();
+    let mut words: Vec<u64> = Vec::new();
+    let numbers = |s: &str| -> Vec<u64> { s.split(' ').map(|n| n.parse().expect("a word")).collect() };
+    let deep = if rng.one_in(16) { 63 + rng.below(3) } else { 0 };
+    let few = rng.below(7);
+    for n in 0..deep + few {
+        let parent = if n < deep { open.last().copied() } else { rng.pick(&[open.first().copied(), open.last().copied(), None]) };
+        open.truncate(parent.map_or(0, |p| 1 + open.iter().position(|o| *o == p).expect("an open scope")));
+        let (is_scope, row) = match n < deep {
+            true => (true, format!("1 {} 0 0 0 {} {} 0 0 0", parent.unwrap_or(TOP), source.texts[1].1, source.texts[1].2)),
+            false => row(source, parent.unwrap_or(TOP), rng),
+        };
+        words.extend(numbers(&row));
+        if is_scope {
+            open.push(n as u64);
+        }
+    }
+    let mut count = (words.len() / ROW) as u64;
+    match rng.below(8) {
+        0 => count = rng.pick(&[count + 1, count.saturating_sub(1), u64::MAX, 4097]),
+        1 | 2 if !words.is_empty() => {
+            let at = rng.below(words.len());
+            words[at] = rng.pick(&[0, 1, 2, 3, 5, 18, TOP, 1 << 32]);
+        }
+        3 => words.extend((0..rng.below(ROW)).map(|n| n as u64)),
+        _ => (),
+    }
+    let kept = |sort: &str| format!("1 {sort}");
+    let mut head = [count.to_string(), "0 0 0".into(), "0 0 0".into(), "0 0 0".into()];
+    for (at, of) in [(1, source.text(REMARK, rng)), (2, source.text(REMARK, rng)), (3, format!("{} {}", rng.pick(&[1, 99_999_999, 100_000_000]), rng.below(6)))] {
+        if rng.one_in(3) {
+            head[at] = kept(&of);
+        }
+    }
+    let mut line = head.join(" ");
+    for word in words {
+        let _ = write!(line, " {word}");
+    }
+    line
 }
 
 /// A room that is ample, just enough, just too little or far too little.
@@ -141,11 +208,9 @@ pub fn some(texts: &Texts, rng: &mut Rng) -> Vec<u8> {
     for _ in 0..1 + rng.below(12) {
         let line = call(&source, rng);
         let (_, call) = script::call(&line);
-        let due = perform(&source.bytes, state, &call, usize::MAX).map_or(0, |wrote| wrote.bytes.len());
+        let due = step(&source.bytes, state, &call, usize::MAX).1.bytes.len();
         let room = room(due, rng);
-        if let Ok(wrote) = perform(&source.bytes, state, &call, room) {
-            state = wrote.state;
-        }
+        state = step(&source.bytes, state, &call, room).1.state;
         let _ = writeln!(calls, "{room} {line}");
     }
     [first.as_bytes(), &source.bytes, calls.as_bytes()].concat()

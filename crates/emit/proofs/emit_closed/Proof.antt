@@ -11,49 +11,44 @@ use Rattle.emit.proofs.Storing.{fits-yes, fits-no, lay-none, lay-done}
 use Rattle.emit.proofs.emit_closed.Statement.{statement}
 use Rattle.emit.proofs.emit_closed.Tie as tie
 
--- how many bytes five of the words have, and how all stand after `$`
+-- how many bytes the words have, and how all stand after `$`
 abbrev sum : List ℕ → List ℕ → List ℕ → List ℕ → List ℕ → ℕ
 sum w g a m b = length w + length g + length a + length m + length b
 
-abbrev tail : List ℕ → List ℕ → List ℕ → List ℕ → List ℕ → List ℕ → List (List ℕ)
-tail w g a m b l = w ∷ g ∷ a ∷ m ∷ b ∷ l ∷ endMark ∷ bytes "\n" ∷ []
+abbrev tail : List ℕ → List ℕ → List ℕ → List ℕ → List ℕ → ℕ → List (List ℕ)
+tail w g a m b l = w ∷ g ∷ a ∷ m ∷ b ∷ (l ∷ []) ∷ endMark ∷ bytes "\n" ∷ []
 
 returns : tie.Need-returns
-returns c = let x = c .before .before .before .before .before .before .before .before .args in lay-none (bytes "$") (tail (now (x .word)) (now (x .gap)) (now (x .a)) (now (x .mid)) (now (x .b)) (now (x .last))) (now (x .out)) (omega arith)
+returns c = let x = c .before .before .before .before .before .before .before .args in lay-none (bytes "$") (tail (now (x .word)) (now (x .gap)) (now (x .a)) (now (x .mid)) (now (x .b)) (x .last)) (now (x .out)) (omega arith)
 
 returns-2 : tie.Need-returns-2
-returns-2 c = let x = c .before .before .before .before .before .before .before .before .before .args in lay-none (bytes "$") (tail (now (x .word)) (now (x .gap)) (now (x .a)) (now (x .mid)) (now (x .b)) (now (x .last))) (now (x .out)) (omega arith)
-
-returns-3 : tie.Need-returns-3
-returns-3 c =
-    let x = c .before .before .before .before .before .before .before .before .before .before .before .args in
+returns-2 c =
+    let x = c .before .before .before .before .before .before .before .before .before .args in
     let n = sum (now (x .word)) (now (x .gap)) (now (x .a)) (now (x .mid)) (now (x .b)) in
-    let h : length (now (x .out)) - 6 - length (now (x .last)) < n = fits-no n _ (c .before .fits2 .ensures) (c .if3 .taken) in
-    lay-none (bytes "$") (tail (now (x .word)) (now (x .gap)) (now (x .a)) (now (x .mid)) (now (x .b)) (now (x .last))) (now (x .out)) (omega arith)
+    let h : length (now (x .out)) - 7 < n = fits-no n _ (c .before .fits2 .ensures) (c .if2 .taken) in
+    lay-none (bytes "$") (tail (now (x .word)) (now (x .gap)) (now (x .a)) (now (x .mid)) (now (x .b)) (x .last)) (now (x .out)) (omega arith)
 
 put-closed-requires : tie.Need-put-closed-requires
 put-closed-requires c κs =
-    let x = c .before .before .before .before .before .before .before .before .before .before .before .before .args in
+    let x = c .before .before .before .before .before .before .before .before .before .before .args in
     let n = sum (now (x .word)) (now (x .gap)) (now (x .a)) (now (x .mid)) (now (x .b)) in
-    let h : n ≤ length (now (x .out)) - 6 - length (now (x .last)) = fits-yes n _ (c .before .before .fits2 .ensures) (c .before .if3 .left) in
+    let h : n ≤ length (now (x .out)) - 7 = fits-yes n _ (c .before .before .fits2 .ensures) (c .before .if2 .left) in
     omega arith
 
-returns-4 : tie.Need-returns-4
-returns-4 c =
-    let x = c .before .before .before .before .before .before .before .before .before .before .before .before .before .before .before .args in
+returns-3 : tie.Need-returns-3
+returns-3 c =
+    let x = c .before .before .before .before .before .before .before .before .before .before .before .before .before .args in
     let n = sum (now (x .word)) (now (x .gap)) (now (x .a)) (now (x .mid)) (now (x .b)) in
-    let h : n ≤ length (now (x .out)) - 6 - length (now (x .last)) = fits-yes n _ (c .before .before .before .before .before .fits2 .ensures) (c .before .before .before .before .if3 .left) in
-    lay-done (bytes "$") (tail (now (x .word)) (now (x .gap)) (now (x .a)) (now (x .mid)) (now (x .b)) (now (x .last))) (now (x .out)) (omega arith) (c .before .before .put-closed .ensures)
+    let h : n ≤ length (now (x .out)) - 7 = fits-yes n _ (c .before .before .before .before .before .fits2 .ensures) (c .before .before .before .before .if2 .left) in
+    lay-done (bytes "$") (tail (now (x .word)) (now (x .gap)) (now (x .a)) (now (x .mid)) (now (x .b)) (x .last)) (now (x .out)) (omega arith) (c .before .before .put-closed .ensures)
 
 pub emit-closed-spec : {M : Type 1} → statement M
 emit-closed-spec =
     tie.close
     (tie.spec
     returns
-    (λ c. search needs)
-    returns-2
     (λ c. search needs) (λ c κs. search needs)
-    returns-3
+    returns-2
     put-closed-requires
     (λ c. search needs)
-    returns-4)
+    returns-3)

@@ -5,7 +5,7 @@ use mathlib.Core.List.{List}
 use Prim.Native.Nat.{ℕ}
 use borrow.Author.Needs.{needs}
 use Rattle.emit.proofs.Storing.{row-text}
-use Rattle.listing.specs.declared.changes.ChangeKind.{ChangeKind}
+use Rattle.change.specs.declared.ChangeKind.{ChangeKind}
 use Rattle.number.specs.Decimal.{decimalOf}
 use Rattle.text.specs.declared.Placed.{Placed}
 use Rattle.lines.specs.Lines.{timeText, valueText, changeLine}

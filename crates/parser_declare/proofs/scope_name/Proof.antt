@@ -9,19 +9,19 @@ returns c = rw (c .enum-told .given .1) (refusing _ _)
 
 read-command-end-requires : tie.Need-read-command-end-requires
 read-command-end-requires c κs =
-    word-next (c .before .before .before .before .before .before .before .before .pre) _ (c .before .before .before .read-token-str .ensures)
+    word-next (c .before .before .before .before .before .before .before .before .pre) _ (c .before .before .before .read-name .ensures)
     (c .before .tok .given .1)
 
 returns-2 : tie.Need-returns-2
 returns-2 c =
     rw (c .before .before .before .before .before .before .p .given .1)
     (word-on (c .before .before .before .before .before .before .before .before .before .pre) _
-    (c .before .before .before .before .read-token-str .ensures) _ (c .before .before .tok .given .1) (c .read-command-end .ensures))
+    (c .before .before .before .before .read-name .ensures) _ (c .before .before .tok .given .1) (c .read-command-end .ensures))
 
 returns-3 : tie.Need-returns-3
 returns-3 c =
     rw (c .before .before .before .before .before .p .given .1)
-    (word-off (c .before .before .before .before .before .before .before .before .pre) _ (c .before .before .before .read-token-str .ensures) _ (c .before .tok2 .given .1))
+    (word-off (c .before .before .before .before .before .before .before .before .pre) _ (c .before .before .before .read-name .ensures) _ (c .before .tok2 .given .1))
 
 pub scope-name-spec : {M : Type 1} → statement M
 scope-name-spec =

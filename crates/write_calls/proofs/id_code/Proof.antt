@@ -9,7 +9,7 @@ returns : tie.Need-returns
 returns c = rw (← c .before .before .before .from-str .ensures, c .before .i .given .1) (refl, refl)
 
 returns-2 : tie.Need-returns-2
-returns-2 c = rw (← c .before .before .before .before .before .from-str .ensures, c .before .before .before .e .given .1) (c .number .ensures ∙ ap numberOf (c .before .id-refusal .ensures), refl)
+returns-2 c = rw (← c .before .before .before .before .before .from-str .ensures, c .before .before .before .e .given .1) (c .number .ensures ∙ ap numberOf (c .before .from-id .ensures), refl)
 
 pub id-code-spec : {M : Type 1} → statement M
 id-code-spec =

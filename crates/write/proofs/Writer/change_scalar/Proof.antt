@@ -6,7 +6,6 @@ use Rattle.write.specs.Layout.{layout, stateAfter}
 use Rattle.write.specs.Call.{call}
 use Rattle.text.proofs.Limit.{none-long}
 use Rattle.write.proofs.Outcomes.{not-writable, laid-out}
-use Rattle.write.proofs.Spelling.{value-name}
 use Rattle.write.proofs.Writer.change_scalar.Statement.{statement}
 use Rattle.write.proofs.Writer.change_scalar.Tie as tie
 
@@ -19,7 +18,7 @@ unfolding call stateAfter layout
 returns-2 c =
     let x = c .before .before .before .before .before .before .before .before .before .args in
     laid-out _ _ _ _ _ none-long (rw (id-some (x .id) (c .before .before .before .before .before .before .if1 .left))) (c .laid .ensures) (c .before .before .before .emit-scalar .ensures) refl
-    (rw (c .before .before .before .before .before .byte .ensures, ← value-name (x .v)))
+    (rw (c .before .before .before .before .before .byte .ensures))
 
 pub change-scalar-spec : {M : Type 1} → statement M
 change-scalar-spec =

@@ -2,13 +2,11 @@
 use mathlib.Core.Path.{refl, sym, _∙_}
 use mathlib.Core.Bool.{and-false}
 use borrow.Author.Needs.{needs}
-use Rattle.idcode.specs.Id.{idText}
 use Rattle.write.proofs.Ids.{id-none, id-some}
 use Rattle.write.specs.Layout.{layout, stateAfter, isId}
 use Rattle.write.specs.Call.{call}
 use Rattle.write_check.specs.Check.{isName}
 use Rattle.write.proofs.Outcomes.{bad-place, not-writable, laid-out, judged-no, judged-yes}
-use Rattle.emit.proofs.Storing.{row-text}
 use Rattle.write.proofs.Writer.change_string.Statement.{statement}
 use Rattle.write.proofs.Writer.change_string.Tie as tie
 
@@ -29,11 +27,10 @@ returns-3 c =
 returns-4 : tie.Need-returns-4
 unfolding call stateAfter layout
 returns-4 c =
-    let x = c .before .before .before .before .before .before .before .before .before .before .before .before .before .before .before .before .before .before .before .before .before .args in
-    let code = row-text (idText (x .id .0)) (c .before .before .before .before .before .before .before .before .before .before .before .spell .ensures) (c .before .before .before .before .before .before .front .ensures) in
-    let ok = judged-yes isName (c .before .before .before .before .before .before .before .before .before .before .before .before .before .before .part .ensures) (c .before .before .before .before .before .before .before .before .before .before .before .before .before .is-name .ensures) (c .before .before .before .before .before .before .before .before .before .before .before .before .if3 .left) in
-    laid-out _ _ _ _ _ (sym (c .before .before .before .before .before .before .before .before .before .before .before .before .before .before .before .before .before .before .outside .ensures) ∙ c .before .before .before .before .before .before .before .before .before .before .before .before .before .before .before .before .before .if1 .left) (rw (id-some (x .id) (c .before .before .before .before .before .before .before .before .before .before .before .before .before .before .before .if2 .left), ok))
-    (c .laid .ensures) (c .before .before .before .emit .ensures) refl (rw (code, c .before .before .before .before .before .before .before .before .before .before .before .before .before .before .part .ensures))
+    let x = c .before .before .before .before .before .before .before .before .before .before .before .before .before .before .args in
+    let ok = judged-yes isName (c .before .before .before .before .before .before .before .part .ensures) (c .before .before .before .before .before .before .is-name .ensures) (c .before .before .before .before .before .if3 .left) in
+    laid-out _ _ _ _ _ (sym (c .before .before .before .before .before .before .before .before .before .before .before .outside .ensures) ∙ c .before .before .before .before .before .before .before .before .before .before .if1 .left) (rw (id-some (x .id) (c .before .before .before .before .before .before .before .before .if2 .left), ok))
+    (c .laid .ensures) (c .before .before .before .emit-text .ensures) refl (rw (c .before .before .before .before .before .before .before .part .ensures))
 
 pub change-string-spec : {M : Type 1} → statement M
 change-string-spec =
@@ -44,6 +41,5 @@ change-string-spec =
     returns-2
     (λ c κs. search needs) (λ c κs. search needs)
     returns-3
-    (λ c κs. search needs) (λ c. search needs) (λ c. search needs) (λ c. search needs) (λ c κs. search needs)
-    (λ c. search needs) (λ c κs. search needs) (λ c κs. search needs) (λ c. search needs)
+    (λ c κs. search needs) (λ c κs. search needs) (λ c. search needs)
     returns-4)

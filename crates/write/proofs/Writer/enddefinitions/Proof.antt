@@ -16,13 +16,12 @@ returns c = not-writable _ _ _ _ _ none-long (ne-eqb (c .before .before .before 
 
 returns-2 : tie.Need-returns-2
 unfolding call stateAfter layout
-returns-2 c = laid-out _ _ _ _ _ none-long (eq-eqb (c .before .before .before .before .before .before .before .before .before .before .before .before .before .before .args .self .depth) 0 (omega arith)) (c .laid .ensures) (c .before .before .before .emit-closed .ensures) refl refl
+returns-2 c = laid-out _ _ _ _ _ none-long (eq-eqb (c .before .before .before .before .before .before .before .before .before .args .self .depth) 0 (omega arith)) (c .laid .ensures) (c .before .before .before .emit-bare .ensures) refl refl
 
 pub enddefinitions-spec : {M : Type 1} → statement M
 enddefinitions-spec =
     tie.close
     (tie.spec
     returns
-    (λ c. search needs) (λ c. search needs) (λ c. search needs) (λ c. search needs) (λ c. search needs)
     (λ c. search needs) (λ c κs. search needs) (λ c κs. search needs) (λ c. search needs)
     returns-2)

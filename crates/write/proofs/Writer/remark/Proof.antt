@@ -15,9 +15,9 @@ returns-2 c =
 
 returns-3 : tie.Need-returns-3
 returns-3 c =
-    laid-out _ _ _ _ _ (sym (c .before .before .before .before .before .before .before .before .before .before .before .before .before .outside .ensures) ∙ c .before .before .before .before .before .before .before .before .before .before .before .before .if1 .left)
-    (judged-yes isRemark (c .before .before .before .before .before .before .before .before .before .before .before .part .ensures) (c .before .before .before .before .before .before .before .before .before .before .is-remark .ensures) (c .before .before .before .before .before .before .before .before .before .if2 .left))
-    (c .laid .ensures) (c .before .before .before .emit-closed .ensures) refl (rw (c .before .before .before .before .before .before .before .before .before .before .before .part .ensures))
+    laid-out _ _ _ _ _ (sym (c .before .before .before .before .before .before .before .before .before .before .before .before .outside .ensures) ∙ c .before .before .before .before .before .before .before .before .before .before .before .if1 .left)
+    (judged-yes isRemark (c .before .before .before .before .before .before .before .before .before .before .part .ensures) (c .before .before .before .before .before .before .before .before .before .is-remark .ensures) (c .before .before .before .before .before .before .before .before .if2 .left))
+    (c .laid .ensures) (c .before .before .before .emit-closed .ensures) refl (rw (c .before .before .before .before .before .before .before .before .before .before .part .ensures))
 
 pub remark-spec : {M : Type 1} → statement M
 remark-spec =
@@ -27,6 +27,6 @@ remark-spec =
     returns
     (λ c κs. search needs) (λ c κs. search needs)
     returns-2
-    (λ c. search needs) (λ c. search needs) (λ c. search needs) (λ c. search needs) (λ c κs. search needs)
-    (λ c κs. search needs) (λ c. search needs)
+    (λ c. search needs) (λ c. search needs) (λ c. search needs) (λ c κs. search needs) (λ c κs. search needs)
+    (λ c. search needs)
     returns-3)

@@ -33,11 +33,11 @@ returns-3 c =
 returns-4 : tie.Need-returns-4
 unfolding call stateAfter layout
 returns-4 c =
-    let x = c .before .before .before .before .before .before .before .before .before .before .before .before .before .before .before .before .before .before .before .before .before .before .args in
-    let kind = row-text (bytes (scopeName (x .t))) (c .before .before .before .before .before .before .before .before .before .before .before .before .before .spell .ensures) (c .before .before .before .before .before .before .before .front .ensures) in
-    laid-out _ _ _ _ _ (sym (c .before .before .before .before .before .before .before .before .before .before .before .before .before .before .before .before .before .before .before .outside .ensures) ∙ c .before .before .before .before .before .before .before .before .before .before .before .before .before .before .before .before .before .before .if1 .left)
-    (rw (judged-yes isName (c .before .before .before .before .before .before .before .before .before .before .before .before .before .before .before .before .before .part .ensures) (c .before .before .before .before .before .before .before .before .before .before .before .before .before .before .before .before .is-name .ensures) (c .before .before .before .before .before .before .before .before .before .before .before .before .before .before .before .if2 .left), lt-leb _ _ (c .before .before .before .before .before .before .before .before .before .before .before .before .before .before .if3 .left)))
-    (c .laid .ensures) (c .before .before .before .emit-closed .ensures) (c .before .before .before .before .before .before .before .before .before .before .before .at-depth .ensures) (rw (kind, c .before .before .before .before .before .before .before .before .before .before .before .before .before .before .before .before .before .part .ensures))
+    let x = c .before .before .before .before .before .before .before .before .before .before .before .before .before .before .before .before .before .before .before .before .before .args in
+    let kind = row-text (bytes (scopeName (x .t))) (c .before .before .before .before .before .before .before .before .before .before .before .before .spell .ensures) (c .before .before .before .before .before .before .front .ensures) in
+    laid-out _ _ _ _ _ (sym (c .before .before .before .before .before .before .before .before .before .before .before .before .before .before .before .before .before .before .outside .ensures) ∙ c .before .before .before .before .before .before .before .before .before .before .before .before .before .before .before .before .before .if1 .left)
+    (rw (judged-yes isName (c .before .before .before .before .before .before .before .before .before .before .before .before .before .before .before .before .part .ensures) (c .before .before .before .before .before .before .before .before .before .before .before .before .before .before .before .is-name .ensures) (c .before .before .before .before .before .before .before .before .before .before .before .before .before .before .if2 .left), lt-leb _ _ (c .before .before .before .before .before .before .before .before .before .before .before .before .before .if3 .left)))
+    (c .laid .ensures) (c .before .before .before .emit-closed .ensures) (c .before .before .before .before .before .before .before .before .before .before .at-depth .ensures) (rw (kind, c .before .before .before .before .before .before .before .before .before .before .before .before .before .before .before .before .part .ensures))
 
 pub scope-def-spec : {M : Type 1} → statement M
 scope-def-spec =
@@ -49,6 +49,6 @@ scope-def-spec =
     returns-2
     returns-3
     (λ c κs. search needs) (λ c. search needs) (λ c κs. search needs) (λ c. search needs) (λ c. search needs)
-    (λ c. search needs) (λ c κs. search needs) (λ c. search needs) (λ c. search needs) (λ c κs. search needs)
-    (λ c κs. search needs) (λ c. search needs)
+    (λ c. search needs) (λ c κs. search needs) (λ c. search needs) (λ c κs. search needs) (λ c κs. search needs)
+    (λ c. search needs)
     returns-4)

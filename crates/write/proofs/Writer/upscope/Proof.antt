@@ -16,14 +16,13 @@ returns c = not-writable _ _ _ _ _ none-long (rw (eq-eqb _ _ (c .if1 .taken)))
 returns-2 : tie.Need-returns-2
 unfolding call stateAfter layout
 returns-2 c =
-    laid-out _ _ _ _ _ none-long (rw (ne-eqb _ _ (c .before .before .before .before .before .before .before .before .before .before .before .before .if1 .left))) (c .laid .ensures) (c .before .before .before .emit-closed .ensures) (c .before .before .before .before .before .before .before .before .before .before .before .at-depth .ensures) refl
+    laid-out _ _ _ _ _ none-long (rw (ne-eqb _ _ (c .before .before .before .before .before .before .before .if1 .left))) (c .laid .ensures) (c .before .before .before .emit-bare .ensures) (c .before .before .before .before .before .before .at-depth .ensures) refl
 
 pub upscope-spec : {M : Type 1} → statement M
 upscope-spec =
     tie.close
     (tie.spec
     returns
-    (λ c. search needs) (λ c κs. search needs) (λ c. search needs) (λ c. search needs) (λ c. search needs)
-    (λ c. search needs) (λ c. search needs) (λ c. search needs) (λ c κs. search needs) (λ c κs. search needs)
+    (λ c. search needs) (λ c κs. search needs) (λ c. search needs) (λ c κs. search needs) (λ c κs. search needs)
     (λ c. search needs)
     returns-2)

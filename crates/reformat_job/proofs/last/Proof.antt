@@ -1,0 +1,13 @@
+-- `reformat_job::last` meets its contract. Assumes nothing.
+use borrow.Author.Needs.{needs}
+use Rattle.reformat_job.proofs.last.Statement.{statement}
+use Rattle.reformat_job.proofs.last.Tie as tie
+
+returns : tie.Need-returns
+returns c = rw (c .before .p .given .1)
+
+returns-2 : tie.Need-returns-2
+returns-2 c = rw (c .enum-told .given .1)
+
+pub last-spec : {M : Type 1} → statement M
+last-spec = tie.close (tie.spec (λ c. search needs) (λ c. search needs) returns returns-2)
