@@ -1,7 +1,7 @@
 //! The exported functions that the crate's shapes do not need: listing, widening, rewriting, whole headers and look-ups, held to the
 //! recorded answers of the programs vcd_list, vcd_reformat and find_tests.
 mod common;
-use common::{cases, dumps, file};
+use common::{answers, cases, dumps, file};
 use vcd_proved::raw::{self, CHANGE, CURSOR_START, HEAD, LIST_FULL, NONE, OK, ROW, SINCE_START, WRITER_START};
 use vcd_proved::{Command, IdCode, Parser};
 
@@ -123,7 +123,7 @@ fn compare(kind: &str, answer: impl Fn(&[u8]) -> Vec<u8>) {
         all.extend(format!("case {n}\n").into_bytes());
         all.extend(answer(case));
     }
-    assert!(all == file(&format!("crates/replay_{kind}/stdout")), "{kind} differs from the recorded answers");
+    assert!(all == answers(kind), "{kind} differs from the recorded answers");
 }
 
 #[test]

@@ -108,8 +108,9 @@ fn vectors_are_the_crates() {
 fn refusals_have_the_pages_names() {
     let page =
         String::from_utf8(std::fs::read(concat!(env!("CARGO_MANIFEST_DIR"), "/../../README.md")).unwrap()).unwrap();
+    let table = page.split("\n## ").find(|part| part.starts_with("Refusals")).expect("the refusals' part");
     let mut names = Vec::new();
-    for row in page.lines().filter(|l| l.starts_with("| ")) {
+    for row in table.lines().filter(|l| l.starts_with("| ")) {
         let cells: Vec<&str> = row.split('|').map(str::trim).collect();
         let numbers = cells[1].split(", ").map(str::parse::<u64>).collect::<Result<Vec<_>, _>>();
         if let Ok(numbers) = numbers {

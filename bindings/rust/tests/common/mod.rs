@@ -12,17 +12,41 @@ pub fn file(path: &str) -> Vec<u8> {
     fs::read(root().join(path)).unwrap_or_else(|e| panic!("{path}: {e}"))
 }
 
-/// The recorded cases of a kind.
+/// The program that a kind's cases are recorded for: both jobs have one.
+fn program(kind: &str) -> &str {
+    if matches!(kind, "list" | "reformat") { "job" } else { kind }
+}
+
+/// The recorded cases of a kind. Where a program has several kinds, each stream of cases stands after a line with its name.
 pub fn cases(kind: &str) -> Vec<Vec<u8>> {
-    let all = file(&format!("crates/replay_{kind}/stdin"));
-    let (mut rest, mut cases) = (&all[..], Vec::new());
+    let all = file(&format!("crates/replay_{}/stdin", program(kind)));
+    let (mut rest, mut named, mut cases) = (&all[..], kind.to_string(), Vec::new());
     while !rest.is_empty() {
-        let len: usize = take_line(&mut rest).parse().expect("a length");
-        cases.push(rest[..len].to_vec());
-        rest = &rest[len + 1..];
+        let line = take_line(&mut rest);
+        match line.parse::<usize>() {
+            Ok(len) => {
+                if named == kind {
+                    cases.push(rest[..len].to_vec());
+                }
+                rest = &rest[len + 1..];
+            }
+            Err(_) => named = line,
+        }
     }
     assert!(cases.len() > 100, "too few {kind} cases");
     cases
+}
+
+/// The recorded answers to them: those of the second kind begin at the second case 0.
+pub fn answers(kind: &str) -> Vec<u8> {
+    let all = file(&format!("crates/replay_{}/stdout", program(kind)));
+    let mark = b"\ncase 0\n";
+    let second = all.windows(mark.len()).position(|w| w == mark);
+    match (kind, second) {
+        ("list", Some(at)) => all[..=at].to_vec(),
+        ("reformat", Some(at)) => all[at + 1..].to_vec(),
+        _ => all,
+    }
 }
 
 /// Takes a line of ASCII off the front.
