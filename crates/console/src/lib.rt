@@ -1,6 +1,6 @@
 // The programs' descriptors, and short texts put into a buffer: what the programs share. Nothing is promised of these but that they are
 // safe and end.
-use text::Text;
+pub use text::front;
 ghost use Prim.Native.Nat.{_≤_};
 
 // What was read of standard input: so many bytes, up to its end or the buffer's; or nothing that can be counted on.
@@ -27,11 +27,6 @@ const OUTPUT: i32 = 1;
 const ERROR: i32 = 2;
 
 const OUTCOME: i32 = 3;
-
-// The first n bytes of a buffer, as far as it goes.
-pub fn front(s: &[u8], n: usize) -> &[u8] {
-    text::part(s, Text { start: 0, len: n })
-}
 
 // Reads standard input until it ends or the buffer is full.
 pub fn read_input(buf: &mut [u8]) -> Input {

@@ -119,16 +119,6 @@ pub fn put_lower(out: &mut [u8], at: usize, word: &[u8]) -> usize
     n
 }
 
-// The text of a row of bytes.
-pub fn front(row: &[u8], len: usize) -> &[u8]
-    ensures { λ r. ⌜ now r ≡ take len (now (row .entry)) ⌝ }
-{
-    if row.len() < len {
-        return row;
-    }
-    &row[..len]
-}
-
 // Puts five words, one after the other.
 pub fn put_five(
     out: &mut [u8],
@@ -227,7 +217,7 @@ pub fn emit_text(first: u8, t: &[u8], id: IdCode, out: &mut [u8]) -> Placed
 {
     let i = id.spell();
     let code = i.bytes;
-    emit(&[first], t, b" ", front(&code, i.len), b"\n", out)
+    emit(&[first], t, b" ", text::front(&code, i.len), b"\n", out)
 }
 
 // A first byte and a newline, around what p says to stand from place 1 on.

@@ -23,7 +23,8 @@ use Rattle.idcode.proofs.Laws.{text-length}
 use Rattle.scope.specs.Types.{varName}
 use Rattle.scope.specs.declared.ReferenceIndex.{ReferenceIndex}
 use Rattle.scope.specs.declared.VarType.{VarType}
-use Rattle.scope.proofs.Indexes.{Sized, index-length}
+use Rattle.scope.specs.Index.{SizedIndex}
+use Rattle.scope.proofs.Indexes.{index-length}
 use Rattle.scope.proofs.ReferenceIndex.{the-type}
 use Rattle.scope.proofs.ReferenceIndex.Laws.{the-laws}
 use Rattle.scope.proofs.Types.{var-names}
@@ -92,13 +93,13 @@ placed w o h p = rw (le-leb (length w) (length o) h) (ap Placed.Count (p .0 ∙ 
 
 -- ---- how long a definition is
 -- the numbers of an index have 32 bits by their type
-sized : (x : ReferenceIndex) → Is (row the-type) x (vals the-type the-laws x) → Sized x
+sized : (x : ReferenceIndex) → Is (row the-type) x (vals the-type the-laws x) → SizedIndex x
 sized ReferenceIndex.None g = tt
 sized (ReferenceIndex.BitSelect a) g = record { sfits = owed the-type the-laws (ReferenceIndex.BitSelect a) _ g .0 .1 }
 sized (ReferenceIndex.Range a b) g =
     let f = owed the-type the-laws (ReferenceIndex.Range a b) _ g in (record { sfits = f .0 .1 }, record { sfits = f .1 .0 .1 })
 
-indexed-length : (x : ReferenceIndex) → Sized x → length (indexed x) ≤ 26
+indexed-length : (x : ReferenceIndex) → SizedIndex x → length (indexed x) ≤ 26
 indexed-length ReferenceIndex.None f = omega arith
 indexed-length (ReferenceIndex.BitSelect a) f = omega (arith, index-length (ReferenceIndex.BitSelect a) f)
 indexed-length (ReferenceIndex.Range a b) f = omega (arith, index-length (ReferenceIndex.Range a b) f)

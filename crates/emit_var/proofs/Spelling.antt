@@ -7,7 +7,8 @@ use lib.ListN.{length, take}
 use lib.Seq.{take-all}
 use Rattle.scope.specs.Index.{indexText}
 use Rattle.scope.specs.declared.ReferenceIndex.{ReferenceIndex}
-use Rattle.scope.proofs.Indexes.{Sized, index-length}
+use Rattle.scope.specs.Index.{SizedIndex}
+use Rattle.scope.proofs.Indexes.{index-length}
 use Rattle.text.specs.Bytes.{bytes}
 use Rattle.text.specs.Texts.{spelled, textIn}
 use Rattle.text.specs.declared.Spelled.{Spelled}
@@ -17,7 +18,7 @@ pub spaced-text : {a r : Spelled} (s : Spelled) → a ≡ spelled (bytes " ") �
     → r ≡ spelled (take 32 (bytes " " ++ textIn s))
 spaced-text s e q = q ∙ ap (λ (l : List ℕ). spelled (take 32 (l ++ textIn s))) (ap textIn e ∙ text-in (bytes " "))
 
-pub spaced-index : (x : ReferenceIndex) → Sized x → (s : Spelled) {r : Spelled} → s ≡ spelled (indexText x)
+pub spaced-index : (x : ReferenceIndex) → SizedIndex x → (s : Spelled) {r : Spelled} → s ≡ spelled (indexText x)
     → r ≡ spelled (take 32 (bytes " " ++ textIn s)) → r ≡ spelled (bytes " " ++ indexText x)
 spaced-index x f s e q =
     let l : length (bytes " " ++ indexText x) ≤ 32 = omega (arith, index-length x f) in

@@ -61,11 +61,11 @@ fn emit_near(
     let y = indexed(x);
     let place = y.bytes;
     emit_words(
-        emit::front(&kind, k.len),
-        emit::front(&digits, n.len),
-        emit::front(&code, i.len),
+        text::front(&kind, k.len),
+        text::front(&digits, n.len),
+        text::front(&code, i.len),
         name,
-        emit::front(&place, y.len),
+        text::front(&place, y.len),
         out,
     )
 }
@@ -190,7 +190,7 @@ fn put_type(out: &mut [u8], at: usize, t: VarType) -> usize
         _ => {
             let k = t.spell();
             let kind = k.bytes;
-            let n = emit::put(out, at, emit::front(&kind, k.len));
+            let n = emit::put(out, at, text::front(&kind, k.len));
             put_byte(out, n, b' ')
         }
     }

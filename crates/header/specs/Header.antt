@@ -4,6 +4,7 @@ use mathlib.Core.Bool.{cond}
 use mathlib.Core.List.{List, [], _∷_, _++_}
 use lib.Dec.{ltb}
 use lib.ListN.{length, drop}
+use Rattle.scope.specs.Limits.{mostLevels, mostRows}
 use Rattle.command.specs.declared.Command.{Command}
 use Rattle.command.specs.declared.Refusal.{Refusal}
 use Rattle.parser.specs.All.{Commands, command, stop, finish, commands}
@@ -64,7 +65,7 @@ move cap (Command.Date t) st n h = atTop st (on st [] (withDate h t))
 move cap (Command.Version t) st n h = atTop st (on st [] (withVersion h t))
 move cap (Command.Timescale q u) st n h = atTop st (on st [] (withTimescale h q u))
 move cap (Command.ScopeDef k t) st n h =
-    cond (ltb (length st) 64) (added cap n (n ∷ st) (Row.Scope (inner st) k t) h) (off Refusal.TooDeep)
+    cond (ltb (length st) mostLevels) (added cap n (n ∷ st) (Row.Scope (inner st) k t) h) (off Refusal.TooDeep)
 move cap Command.Upscope st n h = closed st h
 move cap (Command.VarDef k w i t x) st n h =
     added cap n st (Row.Var (inner st) (record { «var_type» = k; size = w; code = i; reference = t; index = x })) h
@@ -104,7 +105,7 @@ readRows cap (finish d) st n h = ending h (Ended.Refused Refusal.UnexpectedEof (
 
 -- the header at a cursor, into a table with room for as many rows as it has words for, and at most 4,096
 abbrev pub headerOf : List ℕ → Cursor → List ℕ → Outcome
-headerOf s c table = readRows (min 4096 (length table / 10)) (commands s c) [] 0 nothing
+headerOf s c table = readRows (min mostRows (length table / 10)) (commands s c) [] 0 nothing
 
 abbrev pub answerOf : Outcome → HeaderAnswer
 answerOf o = record { cursor = o .cursor; count = length (o .rows); header = o .kept; ended = o .ended }

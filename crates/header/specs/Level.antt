@@ -5,6 +5,7 @@ use mathlib.Core.Bool.{Bool, true, false, cond}
 use mathlib.Core.List.{List, [], _∷_}
 use lib.Dec.{eqb, ltb}
 use lib.ListN.{length}
+use Rattle.scope.specs.Limits.{mostLevels}
 use Rattle.command.specs.declared.Command.{Command}
 use Rattle.command.specs.declared.Refusal.{Refusal}
 use Rattle.idcode.specs.declared.IdCode.{IdCode}
@@ -137,7 +138,7 @@ rest s cap c st n h = readRows cap (commands s c) st n h
 
 -- ---- the next item, with n rows in the table m before it and the table m′ after it; the open scopes are any that fit
 abbrev pub Here : ℕ → Parent → List ℕ → Type 0
-Here levels p st = (length st + levels ≡ 64) × (inner st ≡ p)
+Here levels p st = (length st + levels ≡ mostLevels) × (inner st ≡ p)
 
 -- a row was stored, and the reading goes on in the scopes that `then` makes of those open
 abbrev pub Stores : List ℕ → ℕ → Parent → ℕ → Cursor → List ℕ → ℕ → Cursor → List ℕ → (List ℕ → List ℕ) → Type 0
@@ -162,9 +163,9 @@ Passes s cap p c m n d n′ m′ =
 abbrev pub Follows : List ℕ → ℕ → ℕ → ℕ → Cursor → List ℕ → ℕ → Part → List ℕ → Type 0
 Follows s cap p levels c m n (Part.Closed d n′) m′ =
     (n′ ≤ cap) × (length s - d .place ≤ length s - c .place)
-    × ((st : List ℕ) (h : Header) → suc (length st) + levels ≡ 64
+    × ((st : List ℕ) (h : Header) → suc (length st) + levels ≡ mostLevels
     → after m n (rest s cap c (p ∷ st) n h) ≡ after m′ n′ (rest s cap d st n′ h))
 Follows s cap p levels c m n (Part.Refused e l d n′) m′ =
     (n′ ≤ cap)
-    × ((st : List ℕ) (h : Header) → suc (length st) + levels ≡ 64
+    × ((st : List ℕ) (h : Header) → suc (length st) + levels ≡ mostLevels
     → after m n (rest s cap c (p ∷ st) n h) ≡ final h (Ended.Refused e l) d n′ m′)

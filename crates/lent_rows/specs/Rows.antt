@@ -2,6 +2,7 @@
 use Prim.Native.Nat.{ℕ, zero, suc, _+_, _*_, _/_, min}
 use mathlib.Core.List.{List, [], _∷_, _++_}
 use lib.ListN.{length, take, drop, replicate}
+use Rattle.scope.specs.Limits.{mostRows}
 use Rattle.header.specs.Header.{Outcome, headerOf, readRows, nothing}
 use Rattle.rows.specs.Rows.{rowAt}
 use Rattle.rows.specs.declared.Parent.{Parent}
@@ -19,7 +20,7 @@ structOf Row.None = record { parent = Parent.Top; item = ScopeItem.None }
 
 -- what reading the header at a cursor gives where there is room for n rows: `headerOf` of a table of that many
 abbrev pub headerIn : List ℕ → Cursor → ℕ → Outcome
-headerIn s c n = readRows (min 4096 n) (commands s c) [] 0 nothing
+headerIn s c n = readRows (min mostRows n) (commands s c) [] 0 nothing
 
 -- rows as structs
 unfoldable pub structs : List Row → List HeaderRow

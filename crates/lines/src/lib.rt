@@ -75,8 +75,8 @@ pub fn put_change(input: &[u8], name: &[u8], width: u32, change: Change, out: &m
             let time = t.bytes;
             let l = number::decimal(line);
             let digits = l.bytes;
-            let time = emit::front(&time, t.len);
-            let digits = emit::front(&digits, l.len);
+            let time = text::front(&time, t.len);
+            let digits = text::front(&digits, l.len);
             match kind {
                 ChangeKind::Scalar => lay_wide(
                     name,
@@ -127,9 +127,9 @@ pub fn put_refused(number: u64, line: u64, out: &mut [u8]) -> Placed
     let second = l.bytes;
     emit::emit(
         b"refused ",
-        emit::front(&first, n.len),
+        text::front(&first, n.len),
         b" at ",
-        emit::front(&second, l.len),
+        text::front(&second, l.len),
         b"\n",
         out,
     )

@@ -33,7 +33,8 @@ use Rattle.scope.specs.declared.ParsedVarType.{ParsedVarType}
 use Rattle.scope.specs.declared.ParsedIndex.{ParsedIndex}
 use Rattle.scope.specs.declared.ReferenceIndex.{ReferenceIndex}
 use Rattle.scope.specs.declared.Var.{Var}
-use Rattle.scope.proofs.Indexes.{Sized, index-read}
+use Rattle.scope.specs.Index.{SizedIndex}
+use Rattle.scope.proofs.Indexes.{index-read}
 use Rattle.command.specs.Meaning.{Remark, comment, date, version}
 use Rattle.command.specs.declared.Command.{Command}
 use Rattle.command.specs.declared.Open.{Open}
@@ -53,7 +54,7 @@ use Rattle.command.specs.declared.Word.{Word}
 
 -- its numbers are of their types: times and ids of 64 bits, the others of 32
 abbrev pub Typed : Command → Type 0
-Typed (Command.VarDef k w i t x) = (w < 2 ^ 32) × (i .0 < 2 ^ 64) × Sized x
+Typed (Command.VarDef k w i t x) = (w < 2 ^ 32) × (i .0 < 2 ^ 64) × SizedIndex x
 Typed (Command.Comment t) = Unit {0}
 Typed (Command.Date t) = Unit {0}
 Typed (Command.Version t) = Unit {0}
@@ -71,7 +72,7 @@ Typed (Command.End k) = Unit {0}
 
 -- those of them that are not an id's
 abbrev pub Ranged : Command → Type 0
-Ranged (Command.VarDef k w i t x) = (w < 2 ^ 32) × Sized x
+Ranged (Command.VarDef k w i t x) = (w < 2 ^ 32) × SizedIndex x
 Ranged (Command.Comment t) = Unit {0}
 Ranged (Command.Date t) = Unit {0}
 Ranged (Command.Version t) = Unit {0}

@@ -34,7 +34,8 @@ use Rattle.scope.specs.declared.ScopeType.{ScopeType}
 use Rattle.scope.specs.declared.Var.{Var}
 use Rattle.scope.specs.declared.VarType.{VarType}
 use Rattle.scope.proofs.Types.{scope-names, var-names}
-use Rattle.scope.proofs.Indexes.{Given, Sized, read-index, index-length, index-plain, index-begins}
+use Rattle.scope.specs.Index.{SizedIndex}
+use Rattle.scope.proofs.Indexes.{Given, read-index, index-length, index-plain, index-begins}
 use Rattle.command.specs.Meaning.{Meaning, Remark, comment, date, version, remark, timescale, scopeDef, upscope, varDef, enddefinitions, begin, end, meaning}
 use Rattle.command.specs.declared.Command.{Command}
 use Rattle.command.specs.declared.Open.{Open}
@@ -48,7 +49,7 @@ use Rattle.parser.specs.All.{Said, said, says}
 use Rattle.command.specs.declared.Word.{Word}
 use Rattle.write_check.specs.Check.{isName, isTrimmed}
 use Rattle.write.specs.Layout.{layout, isId, isOpen}
-use Rattle.write.specs.Run.{SizedIndex}
+use Rattle.write.specs.Run.{}
 use Rattle.promises.proofs.Back.{Before, Back, fits, by-word, by-text, by-answer, by-begins, by-ends, by-closing, by-dollar}
 use Rattle.promises.proofs.Plain.{plain, plain-name, plain-number, plain-id}
 use Rattle.promises.proofs.Changes.{id-fits}
@@ -199,7 +200,7 @@ module _ (s g r : List ℕ) (c e : Cursor) (v : Valid s c) (p : allBlank g ≡ t
   var-last m k d q a = by-word s r e _ d (most 32) _ endMark 10 [] a refl refl (omega arith) end-valid λ t d q' a. by-answer s r e m k q d a
 
   -- an index, and the last token
-  var-index : (m : Meaning) (y : Var) (x : ReferenceIndex) (d : Cursor) → Given x → Sized x → meaning s (varCommand y x) ≡ m
+  var-index : (m : Meaning) (y : Var) (x : ReferenceIndex) (d : Cursor) → Given x → SizedIndex x → meaning s (varCommand y x) ≡ m
       → Before s d (indexText x ++ bytes " $end\n") r e → says s (run (varEnd y) s d) ≡ said m e
   unfolding isBlank
   var-index m y x d given sized q a =

@@ -9,7 +9,6 @@ use lib.Dec.{eqb, leb, ltb}
 use lib.ListN.{length, getD}
 use Rattle.text.proofs.Lists.{by-test, both}
 use Rattle.scope.specs.declared.ReferenceIndex.{ReferenceIndex}
-use Rattle.scope.proofs.Indexes as indexes
 use Rattle.command.specs.Meaning.{meaning}
 use Rattle.command.specs.declared.Command.{Command}
 use Rattle.token.specs.declared.Cursor.{Cursor}
@@ -23,7 +22,8 @@ use Rattle.record.specs.declared.RecordWords.{RecordWords}
 use Rattle.record.specs.declared.Recorded.{Recorded}
 use Rattle.record.proofs.ByKind.{by-kind}
 use Rattle.record.proofs.Uses.{used}
-use Rattle.write.specs.Run.{SizedIndex, Sized}
+use Rattle.scope.specs.Index.{SizedIndex}
+use Rattle.write.specs.Run.{Sized}
 use Rattle.write_header.proofs.Takes.{AreWords, word-at}
 use Rattle.write_header.proofs.Takes as takes
 use Rattle.vcd_state.specs.State.{isKept, isScale, scaleOf, headOf}
@@ -31,13 +31,8 @@ use Rattle.vcd_state.specs.declared.HeadRead.{HeadRead}
 use Rattle.vcd_state.proofs.Taken.{scale-small}
 use Rattle.promises.specs.Runs.{SizedScale}
 
-index-sized : (x : ReferenceIndex) → indexes.Sized x → SizedIndex x
-index-sized ReferenceIndex.None z = tt
-index-sized (ReferenceIndex.BitSelect a) z = z
-index-sized (ReferenceIndex.Range a b) z = z
-
 sized : (s : List ℕ) (k : Command) → Typed k → Sized (meaning s k)
-sized s (Command.VarDef k w i t x) z = (z .0, z .1, index-sized x (z .2))
+sized s (Command.VarDef k w i t x) z = (z .0, z .1, z .2)
 sized s (Command.Comment t) z = tt
 sized s (Command.Date t) z = tt
 sized s (Command.Version t) z = tt

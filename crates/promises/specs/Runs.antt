@@ -20,7 +20,8 @@ use Rattle.record.specs.declared.Recorded.{Recorded}
 use Rattle.header.specs.declared.Header.{Header}
 use Rattle.header.specs.declared.KeptTimescale.{KeptTimescale}
 use Rattle.write.specs.Call.{Outcome as Called, call, newVar}
-use Rattle.write.specs.Run.{SizedIndex, Sized, taken}
+use Rattle.scope.specs.Index.{SizedIndex}
+use Rattle.write.specs.Run.{Sized, taken}
 use Rattle.write.specs.declared.Writer.{Writer}
 use Rattle.write.specs.declared.Written.{Written}
 use Rattle.lent_writer.specs.Lent.{lentAnswer, lentState}

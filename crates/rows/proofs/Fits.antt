@@ -14,7 +14,7 @@ use mir.Syntax.{w32}
 use mir.Val.{SFits, ofZ}
 use mir.ValLaws.{toZ-ofZ, ofZ-fits}
 use Rattle.text.proofs.Each.{Each}
-use Rattle.scope.proofs.Indexes.{Sized}
+use Rattle.scope.specs.Index.{SizedIndex}
 use Rattle.scope.proofs.Types.{scope-back, var-back}
 use Rattle.scope.specs.declared.ReferenceIndex.{ReferenceIndex}
 use Rattle.rows.specs.Rows.{top, parentWord, parentOf, wordOf, signedOf, indexForm, indexFirst, indexSecond, isIndex, indexOf, wordsIn, listed, rowWords, allZero, rowOf, wordsAt, rowAt, wordsOf, rowsFrom, rowsOf, filled}
@@ -30,7 +30,7 @@ ParentFits (Parent.Of n) = n .0 < top
 
 abbrev pub Fits : Row → Type 0
 Fits (Row.Scope p k t) = ParentFits p
-Fits (Row.Var p v) = ParentFits p × (v .size < 2 ^ 32) × Sized (v .index)
+Fits (Row.Var p v) = ParentFits p × (v .size < 2 ^ 32) × SizedIndex (v .index)
 Fits (Row.Comment p t) = ParentFits p
 Fits Row.None = Unit {0}
 
@@ -46,7 +46,7 @@ word-is (negsuc n) = refl
 word-back : (z : ℤ) → SFits w32 z → (ltb (wordOf z) (2 ^ 32) ≡ true) × (signedOf (wordOf z) ≡ z)
 word-back z f = rw (word-is z) (lt-ltb (ofZ w32 z) (2 ^ 32) (ofZ-fits w32 z f .fits), sym (signed-is (ofZ w32 z)) ∙ toZ-ofZ w32 z f)
 
-pub index-back : (x : ReferenceIndex) → Sized x
+pub index-back : (x : ReferenceIndex) → SizedIndex x
     → (isIndex (indexForm x) (indexFirst x) (indexSecond x) ≡ true) × (indexOf (indexForm x) (indexFirst x) (indexSecond x) ≡ x)
 unfolding isIndex indexOf
 index-back ReferenceIndex.None f = (refl, refl)

@@ -2,7 +2,7 @@
 --     row-cases                          words are no row, or a row of one of three kinds
 --     is-scope, is-var, is-comment       the row of words, by its kind
 --     none-kind, scope-kind, var-kind    what a row is, by its kind
---     no-row, no-var, told, told-var     row i by its words: what stands in for it where there is none, and what it is where there is one
+--     no-row, no-var, row-held, var-held     row i by its words: what stands in for it where there is none, and what it is where there is one
 use Prim.Native.Nat.{ℕ, _+_, _*_, _/_, _^_, _<_}
 use mathlib.Core.Path.{_≡_, refl, sym, ap}
 use mathlib.Core.Bool.{true, _&&_}
@@ -107,28 +107,28 @@ module _ (table : List ℕ) (i : ℕ) where
   abbrev words : RowWords
   words = wordsAt table (10 * i)
 
-  abbrev Told : Row → Type 0
-  Told r = (kindOf r ≡ 0 → ⊥) → (i < length table / 10) × (parentIn r ≡ getD table (10 * i + 1) 0)
+  abbrev RowHeld : Row → Type 0
+  RowHeld r = (kindOf r ≡ 0 → ⊥) → (i < length table / 10) × (parentIn r ≡ getD table (10 * i + 1) 0)
 
-  abbrev ToldVar : Row → Type 0
-  ToldVar r = kindOf r ≡ 2 → (words .width < 2 ^ 32) × (varIn r ≡ varOf words)
+  abbrev VarHeld : Row → Type 0
+  VarHeld r = kindOf r ≡ 2 → (words .width < 2 ^ 32) × (varIn r ≡ varOf words)
 
-  pub told : Told (rowAt table i)
+  pub row-held : RowHeld (rowAt table i)
   unfolding rowAt
-  told =
+  row-held =
       by-test (ltb i (length table / 10))
       (λ e.
       let l = ltb-true i (length table / 10) e in
       let x = word-of (words .parent) in
-      rw e (row-cases Told words (λ _. (l, x)) (λ _ _ _. (l, x)) (λ _. (l, x)) (λ f. absurd (f refl))))
+      rw e (row-cases RowHeld words (λ _. (l, x)) (λ _ _ _. (l, x)) (λ _. (l, x)) (λ f. absurd (f refl))))
       (λ e. rw e (λ f. absurd (f refl)))
 
-  pub told-var : ToldVar (rowAt table i)
+  pub var-held : VarHeld (rowAt table i)
   unfolding rowAt
-  told-var =
+  var-held =
       by-test (ltb i (length table / 10))
       (λ e.
       rw e
-      (row-cases ToldVar words
+      (row-cases VarHeld words
       (λ q. absurd (omega (arith, q))) (λ h x _. (h, refl)) (λ q. absurd (omega (arith, q))) (λ q. absurd (omega (arith, q)))))
       (λ e. rw e (λ q. absurd (omega (arith, q))))

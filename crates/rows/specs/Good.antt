@@ -5,6 +5,7 @@ use mathlib.Core.Bool.{Bool, true, false, cond, _&&_}
 use mathlib.Core.List.{List, [], _∷_}
 use lib.Dec.{eqb, leb, ltb}
 use lib.ListN.{length}
+use Rattle.scope.specs.Limits.{mostLevels, mostRows}
 use Rattle.rows.specs.declared.Parent.{Parent}
 use Rattle.rows.specs.declared.Row.{Row}
 
@@ -24,10 +25,10 @@ openTo (Parent.Of p) (n ∷ st) = cond (eqb (p .0) n) (n ∷ st) (openTo (Parent
 -- the rows from number n on, where these may be parents
 unfoldable pub isGoodFrom : ℕ → List ℕ → List Row → Bool
 isGoodFrom n st [] = true
-isGoodFrom n st (Row.Scope p k t ∷ rs) = isParent p st && ltb (length (openTo p st)) 64 && isGoodFrom (n + 1) (n ∷ openTo p st) rs
+isGoodFrom n st (Row.Scope p k t ∷ rs) = isParent p st && ltb (length (openTo p st)) mostLevels && isGoodFrom (n + 1) (n ∷ openTo p st) rs
 isGoodFrom n st (Row.Var p v ∷ rs) = isParent p st && isGoodFrom (n + 1) (openTo p st) rs
 isGoodFrom n st (Row.Comment p t ∷ rs) = isParent p st && isGoodFrom (n + 1) (openTo p st) rs
 isGoodFrom n st (Row.None ∷ rs) = false
 
 unfoldable pub isGoodTable : List Row → Bool
-isGoodTable rs = leb (length rs) 4096 && isGoodFrom 0 [] rs
+isGoodTable rs = leb (length rs) mostRows && isGoodFrom 0 [] rs

@@ -1,4 +1,4 @@
--- What is told of a row without the whole of it.
+-- What a row is, without the whole of it.
 use Prim.Native.Nat.{ℕ}
 use Rattle.scope.specs.declared.ReferenceIndex.{ReferenceIndex}
 use Rattle.scope.specs.declared.Var.{Var}

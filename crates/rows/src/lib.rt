@@ -113,7 +113,7 @@ impl RowWords {
             start: self.start as usize,
             len: self.len as usize,
         };
-        match self.told() {
+        match self.row_kind() {
             SCOPE => Row::Scope(
                 parent_of(self.parent),
                 ScopeType::from_number(self.number),
@@ -126,7 +126,7 @@ impl RowWords {
     }
 
     // The kind of the row that the words are; 0 where they are none.
-    fn told(self) -> u64
+    fn row_kind(self) -> u64
         ensures { λ r. ⌜ r ≡ kindOf (rowOf self) ⌝ }
     {
         if self.kind == VAR {

@@ -12,7 +12,7 @@ pub fn kind_at(rows: &[u64], i: usize) -> u64
     if rows.len() / crate::WORDS <= i {
         return 0;
     }
-    crate::words_at(rows, crate::WORDS * i).told()
+    crate::words_at(rows, crate::WORDS * i).row_kind()
 }
 
 // The parent's word of row `i`; TOP where there is none.

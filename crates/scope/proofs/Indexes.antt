@@ -23,7 +23,7 @@ use Rattle.number.specs.declared.Signed.{Signed}
 use Rattle.number.proofs.Laws.{digit-range}
 use Rattle.number.proofs.Writing.{digits-decimal}
 use Rattle.number.proofs.Signs.{signed-some, signed-short, read-signed}
-use Rattle.scope.specs.Index.{padded, bit, range, upToByte, parseInside, parseIndex, indexText}
+use Rattle.scope.specs.Index.{padded, bit, range, upToByte, parseInside, parseIndex, indexText, SizedIndex}
 use Rattle.scope.specs.declared.ParsedIndex.{ParsedIndex}
 use Rattle.scope.specs.declared.ReferenceIndex.{ReferenceIndex}
 use Rattle.scope.proofs.Splitting.{padded-fits}
@@ -33,11 +33,6 @@ abbrev pub Given : ReferenceIndex → Type 0
 Given ReferenceIndex.None = ⊥
 Given (ReferenceIndex.BitSelect a) = Unit {0}
 Given (ReferenceIndex.Range a b) = Unit {0}
-
-abbrev pub Sized : ReferenceIndex → Type 0
-Sized ReferenceIndex.None = Unit {0}
-Sized (ReferenceIndex.BitSelect a) = SFits w32 a
-Sized (ReferenceIndex.Range a b) = SFits w32 a × SFits w32 b
 
 -- ---- each byte of a text
 -- the bytes from 33 to 126; those of a number, with or without a sign
@@ -95,7 +90,7 @@ bracketed m =
     let n : length (m ++ 93 ∷ []) - 1 ≡ length m = omega (arith, length-append m (93 ∷ [])) in
     rw (n, getD-append-seam m 93 [] 0, take-append-seam m (93 ∷ []))
 
-pub read-index : (x : ReferenceIndex) → Given x → Sized x → parseIndex (indexText x) ≡ ParsedIndex.Is x
+pub read-index : (x : ReferenceIndex) → Given x → SizedIndex x → parseIndex (indexText x) ≡ ParsedIndex.Is x
 unfolding parseInside upToByte
 read-index ReferenceIndex.None g f = absurd g
 read-index (ReferenceIndex.BitSelect a) g f =
@@ -117,7 +112,7 @@ pair a b = signedOf a ++ (bytes ":" ++ signedOf b)
 pub pair-length : (a b : ℤ) → SFits w32 a → SFits w32 b → length (pair a b) ≤ 23
 pair-length a b f g = omega (arith, length-append (signedOf a) (bytes ":" ++ signedOf b), signed-short a f, signed-short b g)
 
-pub index-length : (x : ReferenceIndex) → Sized x → length (indexText x) ≤ 25
+pub index-length : (x : ReferenceIndex) → SizedIndex x → length (indexText x) ≤ 25
 index-length ReferenceIndex.None f = omega arith
 index-length (ReferenceIndex.BitSelect a) f = omega (arith, length-append (signedOf a) (bytes "]"), signed-short a f)
 index-length (ReferenceIndex.Range a b) f = omega (arith, length-append (pair a b) (bytes "]"), pair-length a b (f .0) (f .1))
@@ -143,23 +138,23 @@ index-begins (ReferenceIndex.BitSelect a) g = refl
 index-begins (ReferenceIndex.Range a b) g = refl
 
 -- ---- what a text is read as: an index, and its numbers have 32 bits
-one-read : (x : ReferenceIndex) (s : List ℕ) (n : Signed) → padded s ≡ n → bit n ≡ ParsedIndex.Is x → Given x × Sized x
+one-read : (x : ReferenceIndex) (s : List ℕ) (n : Signed) → padded s ≡ n → bit n ≡ ParsedIndex.Is x → Given x × SizedIndex x
 one-read x s (Signed.Is a) p e = let q : ReferenceIndex.BitSelect a ≡ x = cc in rw (sym q) (tt, padded-fits s a p)
 one-read x s Signed.Refused p e = absurd (let z : _≡_ {A = ℕ} 0 1 = cc in omega arith)
 
-two-read : (x : ReferenceIndex) (s t : List ℕ) (n m : Signed) → padded s ≡ n → padded t ≡ m → range n m ≡ ParsedIndex.Is x → Given x × Sized x
+two-read : (x : ReferenceIndex) (s t : List ℕ) (n m : Signed) → padded s ≡ n → padded t ≡ m → range n m ≡ ParsedIndex.Is x → Given x × SizedIndex x
 two-read x s t (Signed.Is a) (Signed.Is b) p q e =
     let i : ReferenceIndex.Range a b ≡ x = cc in rw (sym i) (tt, (padded-fits s a p, padded-fits t b q))
 two-read x s t (Signed.Is a) Signed.Refused p q e = absurd (let z : _≡_ {A = ℕ} 0 1 = cc in omega arith)
 two-read x s t Signed.Refused m p q e = absurd (let z : _≡_ {A = ℕ} 0 1 = cc in omega arith)
 
-inside-read : (x : ReferenceIndex) (m : List ℕ) → parseInside m ≡ ParsedIndex.Is x → Given x × Sized x
+inside-read : (x : ReferenceIndex) (m : List ℕ) → parseInside m ≡ ParsedIndex.Is x → Given x × SizedIndex x
 unfolding parseInside
 inside-read x m e =
     by-test (eqb (length (upToByte 58 m)) (length m)) (λ q. one-read x m (padded m) refl (rw q at e))
     (λ q. two-read x (upToByte 58 m) (drop (length (upToByte 58 m) + 1) m) _ _ refl refl (rw q at e))
 
-pub index-read : (x : ReferenceIndex) (s : List ℕ) → parseIndex s ≡ ParsedIndex.Is x → Given x × Sized x
+pub index-read : (x : ReferenceIndex) (s : List ℕ) → parseIndex s ≡ ParsedIndex.Is x → Given x × SizedIndex x
 unfolding parseIndex
 index-read x [] e = absurd (let z : _≡_ {A = ℕ} 0 1 = cc in omega arith)
 index-read x (b ∷ r) e =

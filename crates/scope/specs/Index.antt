@@ -4,6 +4,8 @@ use mathlib.Core.Bool.{cond, _&&_}
 use mathlib.Core.List.{List, [], _∷_, _++_}
 use lib.Dec.{eqb}
 use lib.ListN.{length, take, drop, getD}
+use mir.Syntax.{w32}
+use mir.Val.{SFits}
 use Rattle.text.specs.Bytes.{bytes}
 use Rattle.text.specs.Texts.{part}
 use Rattle.white_space.specs.WhiteSpace.{trimmed}
@@ -47,3 +49,9 @@ abbrev pub indexText : ReferenceIndex → List ℕ
 indexText ReferenceIndex.None = []
 indexText (ReferenceIndex.BitSelect a) = bytes "[" ++ (signedOf a ++ bytes "]")
 indexText (ReferenceIndex.Range a b) = bytes "[" ++ ((signedOf a ++ (bytes ":" ++ signedOf b)) ++ bytes "]")
+
+-- its numbers are of their type
+abbrev pub SizedIndex : ReferenceIndex → Type 0
+SizedIndex ReferenceIndex.None = Unit {0}
+SizedIndex (ReferenceIndex.BitSelect a) = SFits w32 a
+SizedIndex (ReferenceIndex.Range a b) = SFits w32 a × SFits w32 b

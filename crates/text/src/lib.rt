@@ -142,13 +142,13 @@ pub fn spell(s: &[u8]) -> Spelled
 pub fn join(a: Spelled, b: Spelled) -> Spelled
     ensures { λ r. ⌜ r ≡ spelled (take 32 (textIn a ++ textIn b)) ⌝ }
 {
-    let front = a.bytes;
-    let back = b.bytes;
-    join_texts(front_of(&front, a.len), front_of(&back, b.len))
+    let first = a.bytes;
+    let second = b.bytes;
+    join_texts(front(&first, a.len), front(&second, b.len))
 }
 
 // The first bytes of a row, as far as it goes.
-fn front_of(row: &[u8], len: usize) -> &[u8]
+pub fn front(row: &[u8], len: usize) -> &[u8]
     ensures { λ r. ⌜ now r ≡ take len (now (row .entry)) ⌝ }
 {
     if row.len() < len {

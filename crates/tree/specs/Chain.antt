@@ -4,6 +4,7 @@ use mathlib.Core.Path.{_≡_}
 use mathlib.Core.Bool.{Bool, false, _&&_}
 use mathlib.Core.List.{List, [], _∷_}
 use lib.Dec.{eqb}
+use Rattle.scope.specs.Limits.{mostLevels}
 use Rattle.rows.specs.Good.{openTo, isGoodFrom}
 use Rattle.rows.specs.Rows.{top, parentOf, rowAt, rowsFrom}
 use Rattle.rows.specs.declared.Row.{Row}
@@ -47,7 +48,7 @@ pub record Unwound (table : List ℕ) (p cur d cur′ d′ : ℕ) : Type 0 where
 pub record StandsOn (table : List ℕ) (i cur d cur′ d′ : ℕ) : Type 0 where
   pub ends : base table cur′ d′ ≡ top
   pub under : Under table cur′ d′
-  pub deep : d′ ≤ 64
+  pub deep : d′ ≤ mostLevels
   pub goes : (rs : List Row) → isGoodFrom i (chain table cur d) (rowAt table i ∷ rs) ≡ isGoodFrom (i + 1) (chain table cur′ d′) rs
 
 abbrev pub Stands : List ℕ → ℕ → ℕ → ℕ → Stood → Type 0

@@ -3,6 +3,7 @@ use Prim.Native.Nat.{ℕ, _+_, _-_, _^_}
 use mathlib.Core.Bool.{Bool, true, false, cond, not, _&&_}
 use mathlib.Core.List.{List, [], _∷_}
 use lib.Dec.{leb, eqb}
+use Rattle.scope.specs.Limits.{mostLevels}
 use Rattle.command.specs.Numbers.{simNumber}
 use Rattle.command.specs.Meaning.{Meaning, remark, timescale, scopeDef, upscope, varDef, enddefinitions, timestamp, change, begin, end, Change, scalar, vector, real, string, remarkWord, openAfter}
 use Rattle.command.specs.declared.Open.{Open}
@@ -60,7 +61,7 @@ isChange (string t) = isName t
 abbrev pub writable : Writer → Meaning → Bool
 writable w (remark k t) = isRemark t
 writable w (timescale n u) = leb n 99999999
-writable w (scopeDef k t) = isName t && not (leb 64 (w .depth))
+writable w (scopeDef k t) = isName t && not (leb mostLevels (w .depth))
 writable w upscope = not (eqb (w .depth) 0)
 writable w (varDef k n i t x) = isId i && isName t && not (eqb (w .depth) 0)
 writable w enddefinitions = eqb (w .depth) 0

@@ -165,9 +165,9 @@ impl Writer {
         self.laid(emit::emit_closed(
             &command::TIMESCALE,
             b" ",
-            emit::front(&digits, n.len),
+            text::front(&digits, n.len),
             b" ",
-            emit::front(&name, u.len),
+            text::front(&name, u.len),
             b' ',
             out,
         ))
@@ -194,7 +194,7 @@ impl Writer {
         w.laid(emit::emit_closed(
             &command::SCOPE,
             b" ",
-            emit::front(&name, k.len),
+            text::front(&name, k.len),
             b" ",
             v,
             b' ',
@@ -382,7 +382,7 @@ impl Writer {
         let k = c.spell();
         let name = k.bytes;
         let w = self.with_open(Open::Of(c));
-        w.laid(emit::emit(b"$", emit::front(&name, k.len), b"\n", b"", b"", out))
+        w.laid(emit::emit(b"$", text::front(&name, k.len), b"\n", b"", b"", out))
     }
 
     // Writes an `$end` to end the simulation command `c`, which must be the open one.

@@ -24,7 +24,8 @@ use Rattle.text.specs.Texts.{part}
 use Rattle.text.proofs.Each.{Each}
 use Rattle.text.proofs.Lists.{by-test, both}
 use Rattle.write.specs.Layout.{layout, writable, stateAfter}
-use Rattle.write.specs.Run.{layouts, statesAfter, taken, Sized, AllSized, SizedIndex}
+use Rattle.scope.specs.Index.{SizedIndex}
+use Rattle.write.specs.Run.{layouts, statesAfter, taken, Sized, AllSized}
 use Rattle.write.specs.declared.Writer.{Writer}
 use Rattle.write_header.specs.Meanings.{upscopes, remarkOf, timescaleOf, varMeaning, rowMeanings, headerMeanings}
 use Rattle.write_header.specs.Written.{Outcome, poured, misplaced, headerCall}

@@ -4,6 +4,7 @@ use mathlib.Core.Path.{_≡_}
 use mathlib.Core.Bool.{true, false}
 use mathlib.Core.List.{List, [], _∷_}
 use lib.ListN.{length}
+use Rattle.scope.specs.Limits.{mostLevels}
 use Rattle.command.specs.Meaning.{upscope}
 use Rattle.rows.specs.Good.{isGoodFrom}
 use Rattle.header.specs.Header.{inner}
@@ -25,7 +26,7 @@ pub record Inside (s table : List ℕ) (n : ℕ) : Type 0 where
 -- where row i is to be written with these scopes open, `me` the innermost: what holds of the writing from there
 abbrev pub Where : List ℕ → ℕ → ℕ → ℕ → ℕ → (List ℕ → Type 0) → Type 0
 Where table n levels me i P =
-    (st : List ℕ) → length st + levels ≡ 64 → inner st ≡ parentOf me → isGoodFrom i st (rest table n i) ≡ true → P st
+    (st : List ℕ) → length st + levels ≡ mostLevels → inner st ≡ parentOf me → isGoodFrom i st (rest table n i) ≡ true → P st
 
 -- the writing goes on with row i′ at the place at′, with the same scopes open
 abbrev pub Goes : List ℕ → List ℕ → ℕ → ℕ → ℕ → ℕ → List ℕ → ℕ → Writer → ℕ → List ℕ → ℕ → Writer → Type 0

@@ -6,24 +6,24 @@ use Rattle.rows.proofs.RowWords.row.Statement.{statement}
 use Rattle.rows.proofs.RowWords.row.Tie as tie
 
 var-requires : tie.Need-var-requires
-var-requires c κs = is-var _ (sym (c .before .before .told .ensures) ∙ c .before .match .keys2) .0
+var-requires c κs = is-var _ (sym (c .before .before .row-kind .ensures) ∙ c .before .match .keys2) .0
 
 returns : tie.Need-returns
 returns c =
     rw (c .before .parent-of .ensures, c .from-number .ensures)
-    (sym (is-scope _ (sym (c .before .before .before .told .ensures) ∙ c .before .before .match .keys1)))
+    (sym (is-scope _ (sym (c .before .before .before .row-kind .ensures) ∙ c .before .before .match .keys1)))
 
 returns-2 : tie.Need-returns-2
 returns-2 c =
     rw (c .before .parent-of2 .ensures, c .var .ensures)
-    (sym (is-var _ (sym (c .before .before .before .told .ensures) ∙ c .before .before .match .keys2) .2))
+    (sym (is-var _ (sym (c .before .before .before .row-kind .ensures) ∙ c .before .before .match .keys2) .2))
 
 returns-3 : tie.Need-returns-3
-returns-3 c = rw (c .parent-of3 .ensures) (sym (is-comment _ (sym (c .before .before .told .ensures) ∙ c .before .match .keys3)))
+returns-3 c = rw (c .parent-of3 .ensures) (sym (is-comment _ (sym (c .before .before .row-kind .ensures) ∙ c .before .match .keys3)))
 
 returns-4 : tie.Need-returns-4
 returns-4 c =
-    let k = c .before .told .ensures in
+    let k = c .before .row-kind .ensures in
     let no = c .match .rest in
     sym (is-none _ (λ e. no .0 .0 .1 (k ∙ e)) (λ e. no .0 .1 (k ∙ e)) (λ e. no .1 (k ∙ e)))
 

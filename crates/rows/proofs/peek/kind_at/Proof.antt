@@ -21,7 +21,7 @@ returns c =
 returns-2 : tie.Need-returns-2
 unfolding rowAt
 returns-2 c =
-    rw (lt-ltb _ _ (c .before .before .if1 .left)) (c .told .ensures ∙ ap (λ (w : RowWords). kindOf (rowOf w)) (c .before .words-at .ensures))
+    rw (lt-ltb _ _ (c .before .before .if1 .left)) (c .row-kind .ensures ∙ ap (λ (w : RowWords). kindOf (rowOf w)) (c .before .words-at .ensures))
 
 pub kind-at-spec : {M : Type 1} → statement M
 kind-at-spec = tie.close (tie.spec returns (λ c. search needs) (λ c κs. search needs) (λ c κs. search needs) returns-2)

@@ -2,14 +2,14 @@
 use Prim.Native.Nat.{_/_, _<_}
 use mathlib.Core.Path.{sym, _∙_}
 use lib.ListN.{length}
-use Rattle.rows.proofs.Peeking.{no-row, told}
+use Rattle.rows.proofs.Peeking.{no-row, row-held}
 use borrow.Author.Needs.{needs}
 use Rattle.rows.proofs.peek.parent_at.Statement.{statement}
 use Rattle.rows.proofs.peek.parent_at.Tie as tie
 
 -- row i is one, and so it stands in the table
 inside : (c : tie.Else1) → c .before .before .before .args .i < length (c .before .before .before .args .rows .now) / 10
-inside c = told _ _ (λ e. c .if1 .left (c .before .kind-at .ensures ∙ e)) .0
+inside c = row-held _ _ (λ e. c .if1 .left (c .before .kind-at .ensures ∙ e)) .0
 
 returns : tie.Need-returns
 returns c = sym (no-row _ _ (sym (c .before .kind-at .ensures) ∙ c .if1 .taken))
@@ -27,7 +27,7 @@ shared-slice-read-result : tie.Need-shared-slice-read-result
 shared-slice-read-result c = let h = inside (c .before) in search needs
 
 returns-2 : tie.Need-returns-2
-returns-2 c = sym (told _ _ (λ e. c .before .if1 .left (c .before .before .kind-at .ensures ∙ e)) .1)
+returns-2 c = sym (row-held _ _ (λ e. c .before .if1 .left (c .before .before .kind-at .ensures ∙ e)) .1)
 
 pub parent-at-spec : {M : Type 1} → statement M
 parent-at-spec =

@@ -1,11 +1,11 @@
--- `rows::RowWords::told` meets its contract: each test that is passed says what a kind asks of the words. Assumes nothing.
+-- `rows::RowWords::row_kind` meets its contract: each test that is passed says what a kind asks of the words. Assumes nothing.
 use mathlib.Core.Path.{sym, _∙_}
 use mathlib.Core.Logic.{⊎-elim}
 use borrow.Author.Tests.{ne-eqb, le-leb, lt-leb}
 use Rattle.rows.specs.Rows.{rowOf}
 use borrow.Author.Needs.{needs}
-use Rattle.rows.proofs.RowWords.told.Statement.{statement}
-use Rattle.rows.proofs.RowWords.told.Tie as tie
+use Rattle.rows.proofs.RowWords.row_kind.Statement.{statement}
+use Rattle.rows.proofs.RowWords.row_kind.Tie as tie
 
 returns : tie.Need-returns
 unfolding rowOf
@@ -48,8 +48,8 @@ returns-6 c =
     (λ h. rw (ne-eqb _ _ (c .before .before .if5 .left), ne-eqb _ _ (c .before .before .before .before .if1 .left), ne-eqb _ _ (h .left))))
     (c .if8 .came)
 
-pub told-spec : {M : Type 1} → statement M
-told-spec =
+pub row-kind-spec : {M : Type 1} → statement M
+row-kind-spec =
     tie.close
     (tie.spec
     (λ c κs. search needs)

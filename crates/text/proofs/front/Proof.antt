@@ -1,11 +1,11 @@
--- `emit::front` meets its contract. Assumes nothing.
+-- `text::front` meets its contract. Assumes nothing.
 use denote.Ref.{now}
 use mathlib.Core.Path.{sym}
 use native.Mathlib.Omega.{arith}
-use borrow.Author.Needs.{needs}
 use lib.Seq.{take-all, length-take-le}
-use Rattle.emit.proofs.front.Statement.{statement}
-use Rattle.emit.proofs.front.Tie as tie
+use borrow.Author.Needs.{needs}
+use Rattle.text.proofs.front.Statement.{statement}
+use Rattle.text.proofs.front.Tie as tie
 
 returns : tie.Need-returns
 returns c = sym (take-all (c .before .args .len) (now (c .before .args .row)) (omega arith))
