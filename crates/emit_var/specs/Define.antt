@@ -35,7 +35,7 @@ varText k n i t x = concat (varWords k n i t x)
 
 -- one of the two usual types, and a space
 abbrev pub usual : Bool → List ℕ
-usual wire = cond wire (bytes "wire ") (bytes "reg ")
+usual wire = cond wire (bytes (varName VarType.Wire) ++ bytes " ") (bytes (varName VarType.Reg) ++ bytes " ")
 
 -- the text w was put into the output o from `at` on, and r is the place after it
 abbrev pub Puts : List ℕ → ℕ → List ℕ → ℕ → List ℕ → Type 0

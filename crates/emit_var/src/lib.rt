@@ -21,6 +21,21 @@ ghost use Rattle.emit_var.specs.Define.{indexed as indexedText, definiti
 // Type, width, id and index of a definition, with what stands around them, have no more bytes than this.
 const MOST: usize = 96;
 
+// The bytes of `wire` and of `reg`, from the list of types.
+const WIRE_0: u8 = scope::VAR_TYPES[scope::WIRE].name[0];
+
+const WIRE_1: u8 = scope::VAR_TYPES[scope::WIRE].name[1];
+
+const WIRE_2: u8 = scope::VAR_TYPES[scope::WIRE].name[2];
+
+const WIRE_3: u8 = scope::VAR_TYPES[scope::WIRE].name[3];
+
+const REG_0: u8 = scope::VAR_TYPES[scope::REG].name[0];
+
+const REG_1: u8 = scope::VAR_TYPES[scope::REG].name[1];
+
+const REG_2: u8 = scope::VAR_TYPES[scope::REG].name[2];
+
 // A definition: type, width, id, name and index.
 pub fn emit_var(
     t: VarType,
@@ -220,10 +235,10 @@ fn put_usual(out: &mut [u8], at: usize, wire: bool) -> usize
     put_four(
         out,
         at,
-        either(wire, b'w', b'r'),
-        either(wire, b'i', b'e'),
-        either(wire, b'r', b'g'),
-        either(wire, b'e', b' '),
+        either(wire, WIRE_0, REG_0),
+        either(wire, WIRE_1, REG_1),
+        either(wire, WIRE_2, REG_2),
+        either(wire, WIRE_3, b' '),
     );
     put_byte(out, end, b' ')
 }

@@ -13,7 +13,7 @@ use Rattle.text.specs.declared.Text.{Text}
 use Rattle.number.specs.Decimal.{allDigits, value}
 use Rattle.idcode.specs.declared.IdCode.{IdCode}
 use Rattle.scope.specs.Index.{parseIndex}
-use Rattle.scope.specs.Types.{parseVarType}
+use Rattle.scope.specs.Types.{parseVarType, varName}
 use Rattle.scope.specs.declared.ParsedIndex.{ParsedIndex}
 use Rattle.scope.specs.declared.ParsedVarType.{ParsedVarType}
 use Rattle.scope.specs.declared.ReferenceIndex.{ReferenceIndex}
@@ -70,7 +70,7 @@ Ends s at = Whole s at (at + 4) × (word (drop at s) ≡ endMark)
 
 -- `wire` or `reg`, as the first byte is odd or even, and a space
 abbrev pub Usual : List ℕ → ℕ → Type 0
-Usual s at = cond (eqb (getD s at 0 % 2) 1) (Names s at "wire") (Names s at "reg")
+Usual s at = cond (eqb (getD s at 0 % 2) 1) (Names s at (varName VarType.Wire)) (Names s at (varName VarType.Reg))
 
 -- ---- parts
 -- a type within the limit

@@ -18,10 +18,16 @@ ghost use Rattle.parser_part.specs.Plan.{varOf, varId, varName, varEnd};
 ghost use Rattle.fast_var.specs.FastVar.{HitsVar, Gap, Worded, Four, Ends, Begins, Usual, HitsType, Goes, IndexAt, RangeAt, Digits, Closed, variable as variableOf};
 ghost use Rattle.text.specs.Texts.{limit};
 
-// `wire`, and `reg` with a space after it, as `quad` makes them.
-const WIRE: u32 = 1701996919;
+// `wire`, and `reg` with a space after it, as `quad` makes them of the names in the list of types.
+const WIRE: u32 = scope::VAR_TYPES[scope::WIRE].name[0] as u32
+    + 256 * (scope::VAR_TYPES[scope::WIRE].name[1] as u32)
+    + 65536 * (scope::VAR_TYPES[scope::WIRE].name[2] as u32)
+    + 16777216 * (scope::VAR_TYPES[scope::WIRE].name[3] as u32);
 
-const REG: u32 = 543647090;
+const REG: u32 = scope::VAR_TYPES[scope::REG].name[0] as u32
+    + 256 * (scope::VAR_TYPES[scope::REG].name[1] as u32)
+    + 65536 * (scope::VAR_TYPES[scope::REG].name[2] as u32)
+    + 16777216 * (b' ' as u32);
 
 // The variable that stands there, with the place of the blank that ends its definition.
 pub enum FastVar {

@@ -1,4 +1,5 @@
 pub mod Types
+pub mod VarNames
 pub mod Splitting
 pub mod Indexes
 pub mod Spelling

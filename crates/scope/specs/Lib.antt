@@ -1,5 +1,5 @@
 pub mod Ieee
+pub mod Numbers
 pub mod Types
 pub mod Index
-pub mod Numbers
 pub mod Limits

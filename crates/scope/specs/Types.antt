@@ -1,10 +1,15 @@
 -- The types of scopes and of variables: their names, said once for reading and for writing, and what a text names.
-use Prim.Native.Nat.{ℕ}
+use Prim.Native.Nat.{ℕ, _-_}
 use Prim.Native.String.{String}
-use mathlib.Core.List.{List, [], _∷_}
+use mathlib.Core.List.{List, [], _∷_, _++_}
+use lib.ListN.{getD, length, replicate}
+use Rattle.text.specs.Bytes.{bytes}
 use Rattle.text.specs.Names.{lookup}
+use Rattle.scope.specs.Ieee.{varNames as ieeeNames}
+use Rattle.scope.specs.Numbers.{varOrder, varNumber}
 use Rattle.scope.specs.declared.ScopeType.{ScopeType}
 use Rattle.scope.specs.declared.ParsedScopeType.{ParsedScopeType}
+use Rattle.scope.specs.declared.VarName.{VarName}
 use Rattle.scope.specs.declared.VarType.{VarType}
 use Rattle.scope.specs.declared.ParsedVarType.{ParsedVarType}
 
@@ -25,34 +30,33 @@ scopeTypes =
 unfoldable pub parseScopeType : List ℕ → ParsedScopeType
 parseScopeType w = lookup scopeTypes ParsedScopeType.Invalid w
 
-abbrev pub varName : VarType → String
-varName VarType.Event = "event"
-varName VarType.Integer = "integer"
-varName VarType.Parameter = "parameter"
-varName VarType.Real = "real"
-varName VarType.Reg = "reg"
-varName VarType.Supply0 = "supply0"
-varName VarType.Supply1 = "supply1"
-varName VarType.Time = "time"
-varName VarType.Tri = "tri"
-varName VarType.TriAnd = "triand"
-varName VarType.TriOr = "trior"
-varName VarType.TriReg = "trireg"
-varName VarType.Tri0 = "tri0"
-varName VarType.Tri1 = "tri1"
-varName VarType.WAnd = "wand"
-varName VarType.Wire = "wire"
-varName VarType.WOr = "wor"
-varName VarType.String = "string"
+-- the types of variables: those of the standard, in its order, and `string`, which is none of them: simulators write it, and the crate takes it
+abbrev pub varNames : List String
+varNames = ieeeNames ++ ("string" ∷ [])
 
-abbrev pub namedVar : VarType → String × ParsedVarType
-namedVar k = (varName k, ParsedVarType.Is k)
+abbrev pub varName : VarType → String
+varName k = getD varNames (varNumber k) ""
+
+abbrev pub namedFrom : List VarType → List String → List (String × ParsedVarType)
+namedFrom [] ns = []
+namedFrom (k ∷ ks) [] = []
+namedFrom (k ∷ ks) (n ∷ ns) = (n, ParsedVarType.Is k) ∷ namedFrom ks ns
 
 abbrev pub varTypes : List (String × ParsedVarType)
-varTypes =
-    namedVar VarType.Event ∷ namedVar VarType.Integer ∷ namedVar VarType.Parameter ∷ namedVar VarType.Real ∷ namedVar VarType.Reg ∷ namedVar VarType.Supply0
-    ∷ namedVar VarType.Supply1 ∷ namedVar VarType.Time ∷ namedVar VarType.Tri ∷ namedVar VarType.TriAnd ∷ namedVar VarType.TriOr ∷ namedVar VarType.TriReg
-    ∷ namedVar VarType.Tri0 ∷ namedVar VarType.Tri1 ∷ namedVar VarType.WAnd ∷ namedVar VarType.Wire ∷ namedVar VarType.WOr ∷ namedVar VarType.String ∷ []
+varTypes = namedFrom varOrder varNames
 
 unfoldable pub parseVarType : List ℕ → ParsedVarType
 parseVarType w = lookup varTypes ParsedVarType.Invalid w
+
+-- the entry of a type in the code's list: the name's bytes, zeros up to nine, and how many bytes the name has
+abbrev pub entryOf : VarType → String → VarName
+entryOf k n = record { «var_type» = k; name = bytes n ++ replicate (9 - length (bytes n)) 0; len = length (bytes n) }
+
+abbrev pub entriesFrom : List VarType → List String → List VarName
+entriesFrom [] ns = []
+entriesFrom (k ∷ ks) [] = []
+entriesFrom (k ∷ ks) (n ∷ ns) = entryOf k n ∷ entriesFrom ks ns
+
+-- the list
+abbrev pub varEntries : List VarName
+varEntries = entriesFrom varOrder varNames

@@ -6,11 +6,11 @@ use number::Signed;
 use text::Spelled;
 use text::Text;
 ghost use mathlib.Core.Path.{_≡_};
-ghost use lib.ListN.{length, drop};
-ghost use Rattle.text.specs.Bytes.{bytes};
-ghost use Rattle.text.specs.Names.{lookup};
+ghost use lib.ListN.{length, take};
+ghost use Prim.Native.Nat.{_≤_};
+ghost use Rattle.text.specs.Bytes.{bytes, equal};
 ghost use Rattle.text.specs.Texts.{spelled};
-ghost use Rattle.scope.specs.Types.{scopeName, parseScopeType, varName, varTypes, parseVarType};
+ghost use Rattle.scope.specs.Types.{scopeName, parseScopeType, varName, parseVarType, varEntries};
 ghost use Rattle.scope.specs.Numbers.{scopeNumber, scopeTypeOf, varNumber, varTypeOf};
 ghost use Rattle.scope.specs.Index.{parseIndex, indexText, padded, upToByte, parseInside};
 
@@ -116,77 +116,142 @@ pub enum ParsedVarType {
     Invalid,
 }
 
+// A type, its name and how many bytes that has; after the name stand zeros.
+pub struct VarName {
+    pub var_type: VarType,
+    pub name: [u8; 9],
+    pub len: usize,
+}
+
+// The names of the variable types, in the crate's order: the seventeen of IEEE 1364, and `string`. Reading and writing look here.
+pub const VAR_TYPES: [VarName; 18] = [
+    VarName {
+        var_type: VarType::Event,
+        name: *b"event\0\0\0\0",
+        len: 5,
+    },
+    VarName {
+        var_type: VarType::Integer,
+        name: *b"integer\0\0",
+        len: 7,
+    },
+    VarName {
+        var_type: VarType::Parameter,
+        name: *b"parameter",
+        len: 9,
+    },
+    VarName {
+        var_type: VarType::Real,
+        name: *b"real\0\0\0\0\0",
+        len: 4,
+    },
+    VarName {
+        var_type: VarType::Reg,
+        name: *b"reg\0\0\0\0\0\0",
+        len: 3,
+    },
+    VarName {
+        var_type: VarType::Supply0,
+        name: *b"supply0\0\0",
+        len: 7,
+    },
+    VarName {
+        var_type: VarType::Supply1,
+        name: *b"supply1\0\0",
+        len: 7,
+    },
+    VarName {
+        var_type: VarType::Time,
+        name: *b"time\0\0\0\0\0",
+        len: 4,
+    },
+    VarName {
+        var_type: VarType::Tri,
+        name: *b"tri\0\0\0\0\0\0",
+        len: 3,
+    },
+    VarName {
+        var_type: VarType::TriAnd,
+        name: *b"triand\0\0\0",
+        len: 6,
+    },
+    VarName {
+        var_type: VarType::TriOr,
+        name: *b"trior\0\0\0\0",
+        len: 5,
+    },
+    VarName {
+        var_type: VarType::TriReg,
+        name: *b"trireg\0\0\0",
+        len: 6,
+    },
+    VarName {
+        var_type: VarType::Tri0,
+        name: *b"tri0\0\0\0\0\0",
+        len: 4,
+    },
+    VarName {
+        var_type: VarType::Tri1,
+        name: *b"tri1\0\0\0\0\0",
+        len: 4,
+    },
+    VarName {
+        var_type: VarType::WAnd,
+        name: *b"wand\0\0\0\0\0",
+        len: 4,
+    },
+    VarName {
+        var_type: VarType::Wire,
+        name: *b"wire\0\0\0\0\0",
+        len: 4,
+    },
+    VarName {
+        var_type: VarType::WOr,
+        name: *b"wor\0\0\0\0\0\0",
+        len: 3,
+    },
+    VarName {
+        var_type: VarType::String,
+        name: *b"string\0\0\0",
+        len: 6,
+    },
+];
+
+// Places of the two most usual types in the list.
+pub const REG: usize = 4;
+
+pub const WIRE: usize = 15;
+
+// The list by value. Each mention of it lays it out anew, so a call takes it once.
+fn var_types() -> [VarName; 18]
+    ensures { λ r. ⌜ r ≡ varEntries ⌝ }
+{
+    VAR_TYPES
+}
+
+// Whether an entry's name is `s`.
+fn is_named(e: VarName, s: &[u8]) -> bool
+    requires { ⌜ e .len ≤ length (e .name) ⌝ }
+    ensures { λ r. ⌜ r ≡ equal (now (s .entry)) (take (e .len) (e .name)) ⌝ }
+{
+    let name = e.name;
+    let len = e.len;
+    text::equals(s, &name[..len])
+}
+
 impl VarType {
     pub fn from_str(s: &[u8]) -> ParsedVarType
         ensures { λ r. ⌜ r ≡ parseVarType (now (s .entry)) ⌝ }
     {
-        if text::equals(s, &names::EVENT) {
-            return ParsedVarType::Is(VarType::Event);
-        }
-        if text::equals(s, &names::INTEGER) {
-            return ParsedVarType::Is(VarType::Integer);
-        }
-        if text::equals(s, &names::PARAMETER) {
-            return ParsedVarType::Is(VarType::Parameter);
-        }
-        if text::equals(s, &names::REAL) {
-            return ParsedVarType::Is(VarType::Real);
-        }
-        if text::equals(s, &names::REG) {
-            return ParsedVarType::Is(VarType::Reg);
-        }
-        if text::equals(s, &names::SUPPLY0) {
-            return ParsedVarType::Is(VarType::Supply0);
-        }
-        VarType::from_seventh(s)
-    }
-
-    // The names from the seventh on.
-    fn from_seventh(s: &[u8]) -> ParsedVarType
-        ensures { λ r. ⌜ r ≡ lookup (drop 6 varTypes) ParsedVarType.Invalid (now (s .entry)) ⌝ }
-    {
-        if text::equals(s, &names::SUPPLY1) {
-            return ParsedVarType::Is(VarType::Supply1);
-        }
-        if text::equals(s, &names::TIME) {
-            return ParsedVarType::Is(VarType::Time);
-        }
-        if text::equals(s, &names::TRI) {
-            return ParsedVarType::Is(VarType::Tri);
-        }
-        if text::equals(s, &names::TRIAND) {
-            return ParsedVarType::Is(VarType::TriAnd);
-        }
-        if text::equals(s, &names::TRIOR) {
-            return ParsedVarType::Is(VarType::TriOr);
-        }
-        if text::equals(s, &names::TRIREG) {
-            return ParsedVarType::Is(VarType::TriReg);
-        }
-        VarType::from_thirteenth(s)
-    }
-
-    // The names from the thirteenth on.
-    fn from_thirteenth(s: &[u8]) -> ParsedVarType
-        ensures { λ r. ⌜ r ≡ lookup (drop 12 varTypes) ParsedVarType.Invalid (now (s .entry)) ⌝ }
-    {
-        if text::equals(s, &names::TRI0) {
-            return ParsedVarType::Is(VarType::Tri0);
-        }
-        if text::equals(s, &names::TRI1) {
-            return ParsedVarType::Is(VarType::Tri1);
-        }
-        if text::equals(s, &names::WAND) {
-            return ParsedVarType::Is(VarType::WAnd);
-        }
-        if text::equals(s, &names::WIRE) {
-            return ParsedVarType::Is(VarType::Wire);
-        }
-        if text::equals(s, &names::WOR) {
-            return ParsedVarType::Is(VarType::WOr);
-        }
-        if text::equals(s, &names::STRING) {
-            return ParsedVarType::Is(VarType::String);
+        let list = var_types();
+        let mut i: usize = 0;
+        while i < 18 {
+            let e = list[i];
+            if is_named(e, s) {
+                let t = e.var_type;
+                return ParsedVarType::Is(t);
+            }
+            i += 1;
         }
         ParsedVarType::Invalid
     }
@@ -194,29 +259,14 @@ impl VarType {
     pub fn spell(self) -> Spelled
         ensures { λ r. ⌜ r ≡ spelled (bytes (varName self)) ⌝ }
     {
-        match self {
-            VarType::Event => text::spell(&names::EVENT),
-            VarType::Integer => text::spell(&names::INTEGER),
-            VarType::Parameter => text::spell(&names::PARAMETER),
-            VarType::Real => text::spell(&names::REAL),
-            VarType::Reg => text::spell(&names::REG),
-            VarType::Supply0 => text::spell(&names::SUPPLY0),
-            VarType::Supply1 => text::spell(&names::SUPPLY1),
-            VarType::Time => text::spell(&names::TIME),
-            VarType::Tri => text::spell(&names::TRI),
-            VarType::TriAnd => text::spell(&names::TRIAND),
-            VarType::TriOr => text::spell(&names::TRIOR),
-            VarType::TriReg => text::spell(&names::TRIREG),
-            VarType::Tri0 => text::spell(&names::TRI0),
-            VarType::Tri1 => text::spell(&names::TRI1),
-            VarType::WAnd => text::spell(&names::WAND),
-            VarType::Wire => text::spell(&names::WIRE),
-            VarType::WOr => text::spell(&names::WOR),
-            VarType::String => text::spell(&names::STRING),
-        }
+        let list = var_types();
+        let e = list[self.number() as usize];
+        let name = e.name;
+        let len = e.len;
+        text::spell(&name[..len])
     }
 
-    // The type's place in the order above, from 0.
+    // The type's place in the list, from 0.
     pub fn number(self) -> u64
         ensures { λ r. ⌜ r ≡ varNumber self ⌝ }
     {
