@@ -181,15 +181,19 @@ fn table(source: &Source, rng: &mut Rng) -> String {
     line
 }
 
+/// The longest output that a case lends to a call.
+const MOST_ROOM: usize = 4096;
+
 /// A room that is ample, just enough, just too little or far too little.
 fn room(due: usize, rng: &mut Rng) -> usize {
-    match rng.below(8) {
+    let room = match rng.below(8) {
         0 => due,
         1 => due.saturating_sub(1),
         2 => due + 1,
         3 => rng.below(due + 1),
         _ => 2000,
-    }
+    };
+    room.min(MOST_ROOM)
 }
 
 fn state(rng: &mut Rng) -> (State, usize) {
