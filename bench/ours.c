@@ -1,8 +1,7 @@
 // `ours MODE FILE TURNS [ID [SIZE...]]`: the library over a file that is in memory, with the words and answers of crate_bench (bench/crate);
-// beside its modes `next`, which reads as `read` does but by one call a command, `strict`, which judges the whole dump by strict mode,
-// `changes`, which lists as `list` does but reads no header first, and `turns`, which rewrites as `commands` does but into the same 64 KB
-// again and again. With sizes the file is taken as many dumps of so many bytes, one after the other, cut behind a newline. `ours reformat`
-// rewrites standard input to standard output.
+// beside its modes `next`, which reads as `read` does but by one call a command, `changes`, which lists as `list` does but reads no
+// header first, and `turns`, which rewrites as `commands` does but into the same 64 KB again and again. With sizes the file is taken as many dumps of so many bytes, one after the other, cut behind a newline. `ours
+// reformat` rewrites standard input to standard output.
 #include <fcntl.h>
 #include <stdint.h>
 #include <stdio.h>
@@ -77,19 +76,6 @@ static struct found next_all(struct dump *d) {
     f.count++;
   }
   expect("vcd_next", VCD_DONE, status);
-  return f;
-}
-
-// The verdict of strict mode, with an index of twice as many words as rows are lent; the header's rows are counted, the sum is the last
-// line.
-static struct found strict_all(struct dump *d) {
-  static uint64_t index[2 * VCD_MOST_ROWS];
-  const size_t words = 2 * (d->table_len / VCD_ROW);
-  uint64_t cursor[VCD_CURSOR] = VCD_CURSOR_START;
-  struct found f = {0, 0};
-  expect("vcd_verdict", VCD_OK,
-         vcd_verdict(d->bytes, d->len, d->table, d->table_len, index, words, cursor, VCD_CURSOR, &f.count));
-  f.sum = cursor[VCD_CURSOR_LINE];
   return f;
 }
 
@@ -250,8 +236,8 @@ static work *mode_of(const char *name) {
   static const struct {
     const char *name;
     work *does;
-  } modes[] = {{"load", load},         {"read", read_all},           {"next", next_all},   {"strict", strict_all},
-               {"list", list},         {"changes", changes},         {"commands", commands}, {"command-bytes", commands}, {"turns", in_turns}, {"rewrite", rewrite}, {"bytes", rewrite}};
+  } modes[] = {{"load", load},         {"read", read_all},           {"next", next_all},   {"list", list},     {"changes", changes},
+               {"commands", commands}, {"command-bytes", commands}, {"turns", in_turns}, {"rewrite", rewrite}, {"bytes", rewrite}};
   for (size_t i = 0; i < sizeof modes / sizeof *modes; i++)
     if (strcmp(name, modes[i].name) == 0) return modes[i].does;
   die("no such mode");

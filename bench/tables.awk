@@ -1,5 +1,5 @@
 # The results of bench/run, lines of MEASURE KIND MODE SIDE BYTES VALUE, as tables in Markdown. Of several lines for one thing the least
-# counts. `only` is strict where nothing else was counted.
+# counts.
 BEGIN {
     goal["read"] = 5; goal["list"] = 5; goal["commands"] = 5; goal["rewrite"] = 5; goal["reformat"] = 10
     says["read"] = "reading every command"
@@ -21,14 +21,8 @@ BEGIN {
 }
 
 END {
-    if (only == "strict") {
-        stricter("insn", "Instructions a byte of strict mode", "%.1f")
-        exit
-    }
     sides("ns", "Nanoseconds a byte", "%.2f")
     sides("insn", "Instructions a byte", "%.1f")
-    stricter("ns", "Nanoseconds a byte of strict mode", "%.2f")
-    stricter("insn", "Instructions a byte of strict mode", "%.1f")
     ladder("size-ns", "Nanoseconds a byte of ours by size", "%.3f")
     ladder("size-insn", "Instructions a byte of ours by size", "%.2f")
 }
@@ -60,20 +54,6 @@ function side(measure, kind, mode, bytes, form,    theirs, us, ratio) {
     ratio = us > 0 ? theirs / us : 0
     printf "| %s | %s | %s | " form " | " form " | %.1f | %s |\n", kind, commas(bytes), says[mode], theirs, us, ratio,
         mode in goal ? goal[mode] (ratio >= goal[mode] ? ", met" : ", not met") : ""
-}
-
-# The verdict of strict mode beside our own reading of every command, which it may cost one and a half times.
-function stricter(measure, title, form,    k, n, kind, bytes, base, us) {
-    if (!(measure in kinds)) return
-    printf "### %s\n\n| dump | reading every command | the verdict of strict mode | ratio | goal |\n|---|---|---|---|---|\n", title
-    n = split(kinds[measure], kind, " ")
-    for (k = 1; k <= n; k++) {
-        split(sizes[measure, kind[k]], bytes, " ")
-        base = least[measure, kind[k], "read", "ours", bytes[1]]
-        us = least[measure, kind[k], "strict", "ours", bytes[1]]
-        printf "| %s | " form " | " form " | %.2f | %s |\n", kind[k], base, us, us / base, us <= 1.5 * base ? "1.5, met" : "1.5, not met"
-    }
-    print ""
 }
 
 function ladder(measure, title, form,    k, i, n, kind) {

@@ -17,7 +17,7 @@ extern "C" {
 #endif
 
 /* Words of the arrays. Tables of records, rows and changes take as many as fit; words over are not used. */
-#define VCD_CURSOR 5
+#define VCD_CURSOR 4
 #define VCD_WRITER 3
 #define VCD_SINCE 2
 #define VCD_HEAD 10
@@ -26,7 +26,7 @@ extern "C" {
 #define VCD_CHANGE 6
 
 /* A cursor at the start of an input, a fresh writer, and no time: uint64_t cursor[VCD_CURSOR] = VCD_CURSOR_START; */
-#define VCD_CURSOR_START {0, 1, 0, 0, 0}
+#define VCD_CURSOR_START {0, 1, 0, 0}
 #define VCD_WRITER_START {0, 0, 0}
 #define VCD_SINCE_START {0, 0}
 
@@ -45,14 +45,6 @@ extern "C" {
 #define VCD_CURSOR_LINE 1
 #define VCD_CURSOR_PENDING 2
 #define VCD_CURSOR_OPEN 3
-#define VCD_CURSOR_REASON 4
-
-/* Why a number was refused: stored as the cursor's reason by every call that moves the cursor and answers 9; other answers store 0. What
-   a caller puts there is not read. */
-#define VCD_REASON_EMPTY 1
-#define VCD_REASON_INVALID_DIGIT 2
-#define VCD_REASON_TOO_LARGE 3
-#define VCD_REASON_TOO_SMALL 4
 
 #define VCD_WRITER_DEPTH 0
 #define VCD_WRITER_NEXT 1
@@ -119,10 +111,6 @@ extern "C" {
 #define VCD_LISTED_VECTOR 2
 #define VCD_LISTED_REAL 3
 #define VCD_LISTED_STRING 4
-
-/* What a real is. */
-#define VCD_REAL_TEXT 0
-#define VCD_REAL_NUMBER 1
 
 #define VCD_INDEX_NONE 0
 #define VCD_INDEX_BIT 1
@@ -199,9 +187,6 @@ extern "C" {
 #define VCD_BAD_TABLE 23
 #define VCD_LIST_FULL 24
 #define VCD_BAD_PLACE 25
-#define VCD_BAD_QUANTITY 26
-#define VCD_TIME_BACK 27
-#define VCD_UNKNOWN_ID 28
 
 /* Reads one command. VCD_OK: the record holds it, and the cursor stands behind it. VCD_DONE: only blanks were left. VCD_DONE and
    reading refusals move the cursor and leave the record. VCD_BAD_PLACE, of a cursor outside too: nothing changed. */
@@ -230,11 +215,6 @@ uint64_t vcd_find_scope(const uint8_t *input, size_t input_len, const uint64_t *
 uint64_t vcd_find_var(const uint8_t *input, size_t input_len, const uint64_t *rows, size_t rows_len, size_t count, const uint8_t *path,
                       size_t path_len, uint64_t *row);
 
-/* The first variable of a reference among the items of the scope of row `scope`, not deeper, among the first `count` rows. Answers as
-   vcd_find_var; where that row is no scope, `row` is VCD_NONE. */
-uint64_t vcd_find_var_in(const uint8_t *input, size_t input_len, const uint64_t *rows, size_t rows_len, size_t count, uint64_t scope,
-                         const uint8_t *reference, size_t reference_len, uint64_t *row);
-
 /* Writes the command of one record, whose text stands in `src`, at the start of the output. VCD_OK: `count` bytes are written, the
    others unchanged, and the writer is the state after it. VCD_BAD_PLACE (also of a text outside `src`), then VCD_NOT_WRITABLE, then
    VCD_NO_ROOM: nothing changed. */
@@ -246,11 +226,6 @@ uint64_t vcd_command(uint64_t *writer, size_t writer_len, const uint8_t *src, si
    count and writer. Bytes behind the count are unchanged. */
 uint64_t vcd_write_header(uint64_t *writer, size_t writer_len, const uint8_t *src, size_t src_len, const uint64_t *head, size_t head_len,
                           const uint64_t *rows, size_t rows_len, uint8_t *out, size_t out_len, uint64_t *count);
-
-/* Writes the scope of row `row`, one of the first n rows, with all that is in it and its $upscope. Refused as vcd_write_header, with
-   VCD_BAD_TABLE also where that row is no scope. */
-uint64_t vcd_write_scope(uint64_t *writer, size_t writer_len, const uint8_t *src, size_t src_len, const uint64_t *rows, size_t rows_len,
-                         size_t n, uint64_t row, uint8_t *out, size_t out_len, uint64_t *count);
 
 /* Reads and writes anew from the cursor on. VCD_OK: up to the end of the input. VCD_NO_ROOM: the cursor stands before the command that
    found none; take the `count` bytes out and call again (where they are 0, lend more). VCD_NOT_WRITABLE: the cursor stands before that
@@ -273,56 +248,14 @@ uint64_t vcd_list(const uint8_t *input, size_t input_len, uint64_t *cursor, size
 uint64_t vcd_list_on(const uint8_t *input, size_t input_len, uint64_t *cursor, size_t cursor_len, uint64_t *since, size_t since_len,
                      uint64_t code, uint64_t *rows, size_t rows_len, uint64_t *count);
 
-/* ---- Strict IEEE mode: reading, and three rules of each command after it was read: a timescale's quantity is 1, 10 or 100
-   (VCD_BAD_QUANTITY), a timestamp is not below the last one (VCD_TIME_BACK), the id of a change is declared in the header
-   (VCD_UNKNOWN_ID). These three leave the cursor behind the command. Where none is met, every answer is that of the call without
-   `strict`.
-
-   Which ids are declared is told by the header's first `n` rows and an index of them: any words are taken as one, and nothing is believed
-   of it; without a good one each id is looked up row by row. */
-
-/* Fills the index of the first n rows. It should have more words than there are rows, twice as many or more; else it is all 0. */
-uint64_t vcd_index(const uint64_t *rows, size_t rows_len, size_t n, uint64_t *index, size_t index_len);
-
-/* vcd_header in strict mode: refused by 26 and 28 too, before 8. */
-uint64_t vcd_strict_header(const uint8_t *input, size_t input_len, uint64_t *cursor, size_t cursor_len, uint64_t *rows, size_t rows_len,
-                           uint64_t *head, size_t head_len);
-
-/* vcd_next in strict mode. `since` is the last time before the cursor, VCD_SINCE_START behind a header, and is then the last one that
-   passed. */
-uint64_t vcd_strict_next(const uint8_t *input, size_t input_len, uint64_t *cursor, size_t cursor_len, uint64_t *since, size_t since_len,
-                         const uint64_t *rows, size_t rows_len, size_t n, const uint64_t *index, size_t index_len, uint64_t *record,
-                         size_t record_len);
-
-/* vcd_list_on in strict mode, where the header has the n rows of `head`: refused by 26 to 28 too, before VCD_LIST_FULL. */
-uint64_t vcd_strict_list(const uint8_t *input, size_t input_len, uint64_t *cursor, size_t cursor_len, uint64_t *since, size_t since_len,
-                         const uint64_t *head, size_t head_len, size_t n, const uint64_t *index, size_t index_len, uint64_t code,
-                         uint64_t *rows, size_t rows_len, uint64_t *count);
-
-/* vcd_rewrite in strict mode: refused by 26 to 28 too, before VCD_NOT_WRITABLE and VCD_NO_ROOM; what offends is not written. `since` is
-   the last time before the cursor, and is then the last one that was written. */
-uint64_t vcd_strict_rewrite(const uint8_t *input, size_t input_len, uint64_t *cursor, size_t cursor_len, uint64_t *since, size_t since_len,
-                            const uint64_t *rows, size_t rows_len, size_t n, const uint64_t *index, size_t index_len, uint64_t *writer,
-                            size_t writer_len, uint8_t *out, size_t out_len, uint64_t *count, uint64_t *line);
-
-/* The whole dump from its start: VCD_OK where it passes in strict mode, else its first refusal, in the header or behind it. The cursor
-   stands where reading ended, with the line. Rows and count are the header's, and the index is filled where the header is whole. */
-uint64_t vcd_verdict(const uint8_t *input, size_t input_len, uint64_t *rows, size_t rows_len, uint64_t *index, size_t index_len,
-                     uint64_t *cursor, size_t cursor_len, uint64_t *count);
-
 /* Copies row i of a listing into `change`. VCD_BAD_PLACE: there is no row i, or its words are no row; `change` is unchanged. */
 uint64_t vcd_change(const uint64_t *rows, size_t rows_len, size_t i, uint64_t *change, size_t change_len);
 
-/* Writes the vector at a place of the input in lower case, filled at its left to the width: with x where its leftmost value is x, with
-   z where it is z, else with 0. Longer vectors, and widths above 1,024, get no fill. VCD_BAD_PLACE of a text outside, then
-   VCD_INVALID_VALUE_CHAR (an empty vector too), then VCD_NO_ROOM: nothing changed. */
+/* Writes the vector at a place of the input in lower case, filled with 0 at its left to the width; longer vectors, and widths above
+   1,024, get no fill. VCD_BAD_PLACE of a text outside, then VCD_INVALID_VALUE_CHAR (an empty vector too), then VCD_NO_ROOM: nothing
+   changed. */
 uint64_t vcd_widen(const uint8_t *input, size_t input_len, size_t start, size_t len, uint32_t width, uint8_t *out, size_t out_len,
                    uint64_t *count);
-
-/* What the text of a real is, at a place of the input. VCD_OK: `kind` is VCD_REAL_NUMBER and `number` is the double nearest to the text,
-   a zero with its sign; or `kind` is VCD_REAL_TEXT and `number` is unchanged: digits over 2^53, a power of ten outside -22 to 22, inf
-   or nan. VCD_BAD_PLACE of a text outside, or of an input over 4,294,967,295 bytes, then VCD_PARSE_FLOAT_ERROR: nothing changed. */
-uint64_t vcd_real(const uint8_t *input, size_t input_len, size_t start, size_t len, uint64_t *kind, double *number);
 
 /* Writes the text of an id code, of 1 to VCD_ID_TEXT bytes. VCD_NOT_WRITABLE of VCD_NONE, VCD_NO_ROOM: nothing changed. */
 uint64_t vcd_id_text(uint64_t code, uint8_t *out, size_t out_len, uint64_t *count);

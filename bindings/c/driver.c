@@ -22,9 +22,6 @@ static const kind KINDS[] = {
     {"list", answer_list, NULL},
     {"reformat rewrite", answer_reformat_rewrite, NULL},
     {"reformat command", answer_reformat_command, NULL},
-    {"real", answer_real, NULL},
-    {"strict", answer_strict, NULL},
-    {"verdict", answer_verdict, NULL},
     {"find", NULL, answer_find},
     {"ids", NULL, answer_ids},
 };

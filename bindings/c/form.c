@@ -113,16 +113,6 @@ void put_timescale(uint64_t quantity, uint64_t unit) {
 
 void put_open(uint64_t open) { printf(" %s", open == 0 ? "-" : NAME(SIMS, open - 1)); }
 
-/* The number of a refusal of reading; 9 with its reason after a point. */
-void put_refusal(uint64_t number, const uint64_t *cursor) {
-    uint64_t reason = cursor[VCD_CURSOR_REASON];
-    check((reason != 0) == (number == 9));
-    put_number(number);
-    if (reason != 0) {
-        printf(".%llu", (unsigned long long)reason);
-    }
-}
-
 void put_refused_at(uint64_t number, uint64_t line) {
     printf("refused %llu at %llu\n", (unsigned long long)number, (unsigned long long)line);
 }

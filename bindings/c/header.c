@@ -16,7 +16,7 @@ static void put_parent(uint64_t parent) {
     putchar('\n');
 }
 
-void put_rows(bytes dump, const uint64_t *rows, size_t lent, uint64_t count) {
+static void put_rows(bytes dump, const uint64_t *rows, size_t lent, uint64_t count) {
     for (size_t i = 0; i < count; i++) {
         uint64_t row[VCD_ROW];
         check(vcd_row(rows, lent, i, row, VCD_ROW) == VCD_OK);
@@ -35,7 +35,7 @@ static void put_kept(const char *name, bytes dump, const uint64_t *words) {
     putchar('\n');
 }
 
-void put_head(bytes dump, const uint64_t *head) {
+static void put_head(bytes dump, const uint64_t *head) {
     put_kept("date", dump, &head[VCD_HEAD_DATE]);
     put_kept("version", dump, &head[VCD_HEAD_VERSION]);
     const uint64_t *timescale = &head[VCD_HEAD_TIMESCALE];
@@ -52,7 +52,7 @@ static void put_ended(uint64_t status, const uint64_t *cursor) {
         fputs("header", stdout);
     } else {
         fputs("refused", stdout);
-        put_refusal(status, cursor);
+        put_number(status);
     }
     put_number(cursor[VCD_CURSOR_LINE]);
     put_number(cursor[VCD_CURSOR_PLACE]);
@@ -100,21 +100,6 @@ static void put_found(const char *name, bytes input, const uint64_t *rows, size_
     putchar('\n');
 }
 
-/* The variable that a path's last name is in the scope at the names before it. */
-static uint64_t find_in(bytes input, const uint64_t *rows, size_t lent, size_t count, bytes path, uint64_t *found) {
-    size_t at = path.len;
-    while (at > 0 && path.at[at - 1] != ' ') {
-        at--;
-    }
-    *found = VCD_NONE;
-    uint64_t scope = VCD_NONE;
-    if (at == 0) {
-        return VCD_OK;
-    }
-    check(vcd_find_scope(input.at, input.len, rows, lent, count, path.at, at - 1, &scope) == VCD_OK);
-    return vcd_find_var_in(input.at, input.len, rows, lent, count, scope, path.at + at, path.len - at, found);
-}
-
 /* A dump's header, a line `--`, then paths, one a line: the scope and the variable of each. */
 void answer_find(bytes input) {
     uint64_t cursor[VCD_CURSOR] = VCD_CURSOR_START, rows[32 * VCD_ROW], head[VCD_HEAD];
@@ -130,7 +115,5 @@ void answer_find(bytes input) {
         put_found("scope", input, rows, lent, status, found);
         status = vcd_find_var(input.at, input.len, rows, lent, count, path.at, path.len, &found);
         put_found("var", input, rows, lent, status, found);
-        status = find_in(input, rows, lent, count, path, &found);
-        put_found("in", input, rows, lent, status, found);
     }
 }

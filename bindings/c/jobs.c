@@ -44,7 +44,7 @@ static void put_value(bytes dump, const uint64_t *change, uint64_t width) {
     }
 }
 
-void put_listed(bytes dump, bytes reference, uint64_t width, const uint64_t *change) {
+static void put_change(bytes dump, bytes reference, uint64_t width, const uint64_t *change) {
     put_bytes(reference);
     if (change[VCD_CHANGE_TIMED] == 0) {
         fputs(" -", stdout);
@@ -108,7 +108,7 @@ static uint64_t list_var(bytes dump, uint64_t *cursor, const uint64_t *row) {
     for (size_t i = 0; i < count; i++) {
         uint64_t change[VCD_CHANGE];
         check(vcd_change(changes, CHANGES * VCD_CHANGE, i, change, VCD_CHANGE) == VCD_OK);
-        put_listed(dump, reference, row[VCD_ROW_WIDTH], change);
+        put_change(dump, reference, row[VCD_ROW_WIDTH], change);
     }
     if (status != VCD_LIST_FULL) {
         return status;
@@ -129,7 +129,7 @@ void answer_list(bytes dump) {
         if (row[VCD_ROW_KIND] != VCD_ITEM_VAR) {
             continue;
         }
-        uint64_t cursor[VCD_CURSOR] = {start[0], start[1], start[2], start[3], start[4]};
+        uint64_t cursor[VCD_CURSOR] = {start[0], start[1], start[2], start[3]};
         uint64_t status = list_var(dump, cursor, row);
         if (status != VCD_OK) {
             met = status;

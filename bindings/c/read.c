@@ -6,7 +6,7 @@
 
 #define REFUSALS 4
 
-void put_place(const uint64_t *cursor) {
+static void put_place(const uint64_t *cursor) {
     put_number(cursor[VCD_CURSOR_LINE]);
     put_number(cursor[VCD_CURSOR_PLACE]);
     putchar('\n');
@@ -18,7 +18,7 @@ static int put_ended(uint64_t status, const uint64_t *cursor, int *refusals) {
         fputs("done", stdout);
     } else {
         fputs("refused", stdout);
-        put_refusal(status, cursor);
+        put_number(status);
         *refusals += 1;
     }
     put_place(cursor);

@@ -11,7 +11,6 @@
 typedef struct {
     uint64_t cursor[VCD_CURSOR + 1], writer[VCD_WRITER + 1], since[VCD_SINCE + 1], record[2 * VCD_RECORD], head[VCD_HEAD + 1];
     uint64_t rows[4 * VCD_ROW], row[VCD_ROW + 1], changes[3 * VCD_CHANGE], change[VCD_CHANGE + 1], count, line, code, found;
-    double number;
     uint8_t out[256];
 } lent;
 
@@ -78,8 +77,6 @@ static void judge(int line, const char *call, uint64_t got, uint64_t wanted) {
     vcd_command(now.writer, writer_len, INPUT, now.record, record_len, now.out, sizeof(now.out), &now.count)
 #define WRITE_HEADER(writer_len, head_len)                                                                                                 \
     vcd_write_header(now.writer, writer_len, INPUT, now.head, head_len, now.rows, 4 * VCD_ROW, now.out, sizeof(now.out), &now.count)
-#define WRITE_SCOPE(writer_len, row)                                                                                                       \
-    vcd_write_scope(now.writer, writer_len, INPUT, now.rows, 4 * VCD_ROW, 3, row, now.out, sizeof(now.out), &now.count)
 
 static void lengths(void) {
     for (int more = -1; more <= 1; more += 2) {
@@ -97,7 +94,6 @@ static void lengths(void) {
         REFUSES(VCD_BAD_PLACE, COMMAND(VCD_WRITER, VCD_RECORD + more));
         REFUSES(VCD_BAD_PLACE, WRITE_HEADER(VCD_WRITER + more, VCD_HEAD));
         REFUSES(VCD_BAD_PLACE, WRITE_HEADER(VCD_WRITER, VCD_HEAD + more));
-        REFUSES(VCD_BAD_PLACE, WRITE_SCOPE(VCD_WRITER + more, 1));
         REFUSES(VCD_BAD_PLACE, vcd_row(now.rows, 4 * VCD_ROW, 0, now.row, VCD_ROW + more));
         REFUSES(VCD_BAD_PLACE, vcd_change(now.changes, 3 * VCD_CHANGE, 0, now.change, VCD_CHANGE + more));
     }
@@ -275,9 +271,6 @@ static void cursors_outside(void) {
 #define FIND(what, count, path, len)                                                                                                       \
     vcd_find_##what(INPUT, now.rows, 4 * VCD_ROW, count, (const uint8_t *)(path), len, &now.found)
 
-#define FIND_IN(count, scope, reference)                                                                                                   \
-    vcd_find_var_in(INPUT, now.rows, 4 * VCD_ROW, count, scope, (const uint8_t *)(reference), 1, &now.found)
-
 static void tables(void) {
     REFUSES(VCD_BAD_PLACE, vcd_row(now.rows, 4 * VCD_ROW, 4, now.row, VCD_ROW));
     REFUSES(VCD_BAD_PLACE, vcd_row(now.rows, 4 * VCD_ROW, SIZE_MAX, now.row, VCD_ROW));
@@ -293,24 +286,11 @@ static void tables(void) {
     SETS(VCD_OK, FIND(var, SIZE_MAX, "m", 1), found, VCD_NONE);
     SETS(VCD_OK, FIND(var, SIZE_MAX, "m w", 3), found, 2);
     SETS(VCD_OK, FIND(var, 2, "m w", 3), found, VCD_NONE);
-    /* Row 1 is the scope of row 2; the others are none. */
-    SETS(VCD_OK, FIND_IN(SIZE_MAX, 1, "w"), found, 2);
-    SETS(VCD_OK, FIND_IN(2, 1, "w"), found, VCD_NONE);
-    SETS(VCD_OK, FIND_IN(1, 1, "w"), found, VCD_NONE);
-    SETS(VCD_OK, FIND_IN(SIZE_MAX, 2, "w"), found, VCD_NONE);
-    SETS(VCD_OK, FIND_IN(SIZE_MAX, VCD_NONE, "w"), found, VCD_NONE);
-    SETS(VCD_BAD_TABLE, WRITE_SCOPE(VCD_WRITER, 0), count, 0);
-    SETS(VCD_BAD_TABLE, WRITE_SCOPE(VCD_WRITER, 2), count, 0);
-    SETS(VCD_BAD_TABLE, WRITE_SCOPE(VCD_WRITER, 3), count, 0);
-    SETS(VCD_BAD_TABLE, WRITE_SCOPE(VCD_WRITER, VCD_NONE), count, 0);
     /* The last row's text outside the input: 25 wherever the path leads, where that row is among those counted. */
     now.rows[2 * VCD_ROW + VCD_ROW_START] = sizeof(TEXT) - 1;
     REFUSES(VCD_BAD_PLACE, FIND(var, SIZE_MAX, "m w", 3));
     REFUSES(VCD_BAD_PLACE, FIND(scope, 3, "m", 1));
     REFUSES(VCD_BAD_PLACE, FIND(scope, 3, "", 0));
-    REFUSES(VCD_BAD_PLACE, FIND_IN(3, 1, "w"));
-    SETS(VCD_BAD_PLACE, WRITE_SCOPE(VCD_WRITER, 1), count, 0);
-    now.rows[2 * VCD_ROW + VCD_ROW_START] = sizeof(TEXT) - 1;
     SETS(VCD_OK, FIND(scope, 2, "m", 1), found, 1);
 }
 
@@ -342,7 +322,6 @@ static void last_id(void) {
 }
 
 #define WIDEN(start, len, room) vcd_widen((const uint8_t *)"10q", 3, start, len, 4, now.out, room, &now.count)
-#define REAL(start, len) vcd_real((const uint8_t *)"1.5q", 4, start, len, &now.code, &now.number)
 
 /* The other refusals that leave no trace, in their order. */
 static void others(void) {
@@ -351,10 +330,6 @@ static void others(void) {
     REFUSES(VCD_INVALID_VALUE_CHAR, WIDEN(1, 2, 0));
     REFUSES(VCD_INVALID_VALUE_CHAR, WIDEN(1, 0, 0));
     REFUSES(VCD_NO_ROOM, WIDEN(0, 2, 3));
-    REFUSES(VCD_BAD_PLACE, REAL(3, 2));
-    REFUSES(VCD_BAD_PLACE, REAL(SIZE_MAX, 2));
-    REFUSES(VCD_PARSE_FLOAT_ERROR, REAL(0, 4));
-    REFUSES(VCD_PARSE_FLOAT_ERROR, REAL(0, 0));
     now.record[VCD_RECORD_START] = sizeof(TEXT);
     REFUSES(VCD_BAD_PLACE, COMMAND(VCD_WRITER, VCD_RECORD));
     now.record[VCD_RECORD_START] = 0;
@@ -368,51 +343,9 @@ static void others(void) {
     SETS(VCD_BAD_TABLE, WRITE_HEADER(VCD_WRITER, VCD_HEAD), count, 0);
 }
 
-/* The answer, and the reason that it leaves in a cursor where another stood. */
-static void tells(int line, const char *call, uint64_t got, uint64_t refusal, uint64_t reason) {
-    uint64_t told = now.cursor[VCD_CURSOR_REASON];
-    checks++;
-    if (got != refusal || told != reason) {
-        failed++;
-        printf("refusals.c:%d: %s: answered %llu by %llu, not %llu by %llu\n", line, call, (unsigned long long)got, (unsigned long long)told,
-               (unsigned long long)refusal, (unsigned long long)reason);
-    }
-    restore();
-}
-
-#define TELLS(call)                                                                                                                        \
-    do {                                                                                                                                   \
-        now.cursor[VCD_CURSOR_REASON] = 7;                                                                                                 \
-        uint64_t got = (call);                                                                                                             \
-        tells(__LINE__, #call, got, refusal, wanted);                                                                                      \
-    } while (0)
-
-/* Every call that moves a cursor, over a dump whose first command is refused. */
-static void reason(const char *dump, uint64_t refusal, uint64_t wanted) {
-    const uint8_t *input = (const uint8_t *)dump;
-    size_t len = strlen(dump);
-    TELLS(vcd_next(input, len, now.cursor, VCD_CURSOR, now.record, VCD_RECORD));
-    TELLS(vcd_read(input, len, now.cursor, VCD_CURSOR, now.record, 2 * VCD_RECORD, &now.count));
-    TELLS(vcd_header(input, len, now.cursor, VCD_CURSOR, now.rows, 4 * VCD_ROW, now.head, VCD_HEAD));
-    TELLS(vcd_list(input, len, now.cursor, VCD_CURSOR, 0, now.changes, 3 * VCD_CHANGE, &now.count));
-    TELLS(vcd_list_on(input, len, now.cursor, VCD_CURSOR, now.since, VCD_SINCE, 0, now.changes, 3 * VCD_CHANGE, &now.count));
-    TELLS(vcd_rewrite(input, len, now.cursor, VCD_CURSOR, now.writer, VCD_WRITER, now.out, sizeof(now.out), &now.count, &now.line));
-}
-
-/* A number too small is only met inside an index, which is refused by 14. */
-static void reasons(void) {
-    reason("$timescale ns $end ", VCD_PARSE_INT_ERROR, VCD_REASON_EMPTY);
-    reason("#8b ", VCD_PARSE_INT_ERROR, VCD_REASON_INVALID_DIGIT);
-    reason("#- ", VCD_PARSE_INT_ERROR, VCD_REASON_INVALID_DIGIT);
-    reason("#18446744073709551616 ", VCD_PARSE_INT_ERROR, VCD_REASON_TOO_LARGE);
-    reason("$var wire 4294967296 ! w $end ", VCD_PARSE_INT_ERROR, VCD_REASON_TOO_LARGE);
-    reason("$var wire 1 ! w [-2147483649] $end ", VCD_INVALID_REFERENCE_INDEX, 0);
-    reason("1\x7f ", VCD_ID_INVALID_CHARS, 0);
-}
-
 int main(void) {
-    static void (*const parts[])(void) = {lengths, states, heads,   records, indexes, cursors_outside,
-                                          tables,  ids,    last_id, others,  reasons};
+    static void (*const parts[])(void) = {lengths, states,  heads,  records, indexes, cursors_outside,
+                                          tables,  ids,     last_id, others};
     for (size_t i = 0; i < sizeof(parts) / sizeof(parts[0]); i++) {
         restore();
         parts[i]();

@@ -24,18 +24,9 @@ void put_text(bytes text);
 void put_record(bytes input, const uint64_t *record);
 /* A header's row without its parent. */
 void put_row(bytes input, const uint64_t *row);
-/* The rows of a header's table with their parents; what the head keeps. */
-void put_rows(bytes dump, const uint64_t *rows, size_t lent, uint64_t count);
-void put_head(bytes dump, const uint64_t *head);
-/* The cursor's line and place, and LF. */
-void put_place(const uint64_t *cursor);
-/* A change's line as vcd_list prints it: reference, time, line, value at a width. */
-void put_listed(bytes dump, bytes reference, uint64_t width, const uint64_t *change);
 void put_timescale(uint64_t quantity, uint64_t unit);
 /* A space and the open simulation command of a state. */
 void put_open(uint64_t open);
-/* A space and the number of a refusal of reading; 9 with its reason after a point. */
-void put_refusal(uint64_t number, const uint64_t *cursor);
 /* The line that the listing and rewriting programs end with. */
 void put_refused_at(uint64_t number, uint64_t line);
 const char *scope_name(uint64_t type);
@@ -58,9 +49,6 @@ void answer_write(bytes script);
 void answer_list(bytes dump);
 void answer_reformat_rewrite(bytes dump);
 void answer_reformat_command(bytes dump);
-void answer_real(bytes text);
-void answer_strict(bytes dump);
-void answer_verdict(bytes dump);
 
 /* The answers to a whole input that is no stream of cases. */
 void answer_find(bytes input);

@@ -1,5 +1,4 @@
-/* Write cases: a script of writer calls, each made by vcd_command, a header by vcd_write_header, a scope by vcd_write_scope. And the
-   texts and codes of ids. */
+/* Write cases: a script of writer calls, each made by vcd_command, a header by vcd_write_header. And the texts and codes of ids. */
 #include "replay.h"
 
 #include <stdio.h>
@@ -37,7 +36,7 @@ static const struct {
     {"end", VCD_KIND_END, "S"},
 };
 
-enum { ADD_VAR = 9, ADD_WIRE = 10, HEADER = 19, SCOPE = 20 };
+enum { ADD_VAR = 9, ADD_WIRE = 10, HEADER = 19 };
 
 /* An index number, which may be negative, as 32 bits of two's complement. */
 static uint64_t index_in(bytes word) {
@@ -91,35 +90,22 @@ static void put_written(const uint64_t *writer, const uint8_t *out, uint64_t cou
     put_open(writer[VCD_WRITER_OPEN]);
 }
 
-/* The words of a line from one on. */
-static size_t words_from(bytes line, int at, uint64_t *words) {
+/* A header's words stand behind its number: those of the head, then the table's. Commands before a refusal stay. */
+static void answer_table(bytes source, bytes line, uint64_t *writer, uint64_t room) {
+    uint8_t out[MOST_ROOM];
+    uint64_t words[MOST_WORDS], count = 0;
     size_t len = 0;
-    for (bytes word = word_at(line, at); word.len > 0 && len < MOST_WORDS; word = word_at(line, at + (int)len)) {
+    for (bytes word = word_at(line, 2); word.len > 0 && len < MOST_WORDS; word = word_at(line, (int)len + 2)) {
         words[len++] = number_in(word);
     }
-    return len;
-}
-
-/* A header's words stand behind its number: those of the head, then the table's. A scope's are its row, the count of rows, the
-   table's. Commands before a refusal stay. */
-static void answer_table(bytes source, bytes line, uint64_t *writer, uint64_t room, uint64_t call) {
-    uint8_t out[MOST_ROOM];
-    uint64_t words[MOST_WORDS], count = 0, status;
-    size_t len = words_from(line, 2, words), head = call == HEADER ? VCD_HEAD : 2;
-    check(len >= head);
+    check(len >= VCD_HEAD);
     mark_bytes(out, MOST_ROOM);
-    if (call == HEADER) {
-        status = vcd_write_header(writer, VCD_WRITER, source.at, source.len, words, VCD_HEAD, words + head, len - head, out, (size_t)room,
-                                  &count);
-    } else {
-        status = vcd_write_scope(writer, VCD_WRITER, source.at, source.len, words + head, len - head, (size_t)words[1], words[0], out,
-                                 (size_t)room, &count);
-    }
-    fputs(call == HEADER ? "header" : "scope", stdout);
+    uint64_t status = vcd_write_header(writer, VCD_WRITER, source.at, source.len, words, VCD_HEAD, words + VCD_HEAD, len - VCD_HEAD, out,
+                                       (size_t)room, &count);
     if (status == VCD_OK) {
-        fputs(" ok", stdout);
+        fputs("header ok", stdout);
     } else {
-        printf(" refused %llu", (unsigned long long)status);
+        printf("header refused %llu", (unsigned long long)status);
     }
     put_written(writer, out, count);
     putchar('\n');
@@ -138,8 +124,8 @@ static void put_ok(uint64_t call, const uint64_t *writer, const uint8_t *out, ui
 static void answer_call(bytes source, bytes line, uint64_t *writer) {
     uint8_t out[MOST_ROOM];
     uint64_t room = number_in(word_at(line, 0)), call = number_in(word_at(line, 1));
-    if (room <= MOST_ROOM && (call == HEADER || call == SCOPE)) {
-        answer_table(source, line, writer, room, call);
+    if (room <= MOST_ROOM && call == HEADER) {
+        answer_table(source, line, writer, room);
         return;
     }
     if (room > MOST_ROOM || call < 1 || call >= sizeof(CALLS) / sizeof(CALLS[0])) {

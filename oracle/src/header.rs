@@ -16,17 +16,6 @@ pub struct Table {
     pub rows: Vec<Row>,
 }
 
-/// What gives commands one after the other.
-pub trait Steps {
-    fn step(&mut self) -> Step;
-}
-
-impl Steps for Reader {
-    fn step(&mut self) -> Step {
-        Reader::step(self)
-    }
-}
-
 /// A table being filled, the rows of its open scopes, and how many rows it may have.
 struct Filling {
     table: Table,
@@ -36,9 +25,9 @@ struct Filling {
 
 impl Filling {
     /// Takes a header's commands. Answers the refusal's number, or none for a whole header.
-    fn fill(&mut self, steps: &mut impl Steps) -> Option<u8> {
+    fn fill(&mut self, reader: &mut Reader) -> Option<u8> {
         loop {
-            match steps.step() {
+            match reader.step() {
                 Step::Refused(number) => return Some(number),
                 Step::Done => return Some(1),
                 Step::Command(Command::Enddefinitions) if self.open.is_empty() => return None,
@@ -89,19 +78,13 @@ pub fn split(case: &[u8]) -> (usize, &[u8]) {
     (rows.expect("the number of rows lent"), &case[end + 1..])
 }
 
-/// The header that these steps give, into so many rows: the table, and the refusal's number, or none for a whole header.
-pub fn fill(steps: &mut impl Steps, lent: usize) -> (Table, Option<u8>) {
+/// Reads a header into so many rows: the table, and the refusal's number, or none for a whole header.
+pub fn read(reader: &mut Reader, lent: usize) -> (Table, Option<u8>) {
     // page: at most 4,096 rows, or fewer as lent.
     let mut filling = Filling { table: Table::default(), open: Vec::new(), lent: lent.min(4096) };
-    let refused = filling.fill(steps);
+    let refused = filling.fill(reader);
+    agree(reader, &filling.table, refused);
     (filling.table, refused)
-}
-
-/// Reads a header, held to the crate's own.
-pub fn read(reader: &mut Reader, lent: usize) -> (Table, Option<u8>) {
-    let (table, refused) = fill(reader, lent);
-    agree(reader, &table, refused);
-    (table, refused)
 }
 
 pub fn answer(out: &mut String, case: &[u8]) {
@@ -110,7 +93,9 @@ pub fn answer(out: &mut String, case: &[u8]) {
     let (table, refused) = read(&mut reader, lent);
     print(out, &table);
     match refused {
-        Some(number) => reader.refused(out, number),
+        Some(number) => {
+            let _ = write!(out, "refused {number}");
+        }
         None => out.push_str("header"),
     }
     let _ = write!(out, " {} {}", reader.line(), reader.place());
@@ -120,7 +105,7 @@ pub fn answer(out: &mut String, case: &[u8]) {
     out.push('\n');
 }
 
-pub fn print(out: &mut String, table: &Table) {
+fn print(out: &mut String, table: &Table) {
     for (parent, command) in &table.rows {
         form::command(out, command, b"");
         match parent {

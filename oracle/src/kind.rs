@@ -1,5 +1,5 @@
 //! The kinds of cases, and the answer to a case of each.
-use crate::{header, list, read, real, reformat, strict, write};
+use crate::{header, list, read, reformat, write};
 use std::fmt::Write;
 
 #[derive(Clone, Copy, PartialEq)]
@@ -9,9 +9,6 @@ pub enum Kind {
     Write,
     List,
     Reformat,
-    Real,
-    Strict,
-    Verdict,
 }
 
 impl Kind {
@@ -22,9 +19,6 @@ impl Kind {
             "write" => Some(Kind::Write),
             "list" => Some(Kind::List),
             "reformat" => Some(Kind::Reformat),
-            "real" => Some(Kind::Real),
-            "strict" => Some(Kind::Strict),
-            "verdict" => Some(Kind::Verdict),
             _ => None,
         }
     }
@@ -39,9 +33,6 @@ impl Kind {
             Kind::Write => write::answer(&mut out, case),
             Kind::List => list::answer(&mut out, case),
             Kind::Reformat => reformat::answer(&mut out, case),
-            Kind::Real => real::answer(&mut out, case),
-            Kind::Strict => strict::answer(&mut out, case),
-            Kind::Verdict => strict::verdict(&mut out, case),
         }
         out
     }

@@ -1,4 +1,4 @@
-//! Answers of the listing program: the changes that the crate reads, printed by document 01's rules, short vectors filled by request 2's.
+//! Answers of the listing program: the changes that the crate reads, printed by document 01's rules.
 use crate::program::{opened, refused};
 use crate::read::real_text;
 use crate::reader::{Reader, Step};
@@ -9,17 +9,17 @@ use vcd::{Command, IdCode, Value, Vector};
 const ROWS: usize = 1_024;
 const WIDEST: usize = 1_024;
 
-pub enum Changed {
+enum Changed {
     Scalar(Value),
     Vector(Vector),
     Text(String),
 }
 
-pub struct Change {
-    pub id: IdCode,
-    pub time: Option<u64>,
-    pub line: u64,
-    pub value: Changed,
+struct Change {
+    id: IdCode,
+    time: Option<u64>,
+    line: u64,
+    value: Changed,
 }
 
 /// All changes behind a header, and how their reading was refused: number and line.
@@ -58,23 +58,19 @@ fn read(input: &[u8], mut reader: Reader) -> Data {
             }
             Step::Command(command) => command,
         };
-        if let Command::Timestamp(t) = command {
-            time = Some(t);
-        }
-        if let Some((id, value)) = changed(&command, real_text(input, from, &command)) {
-            data.changes.push(Change { id, time, line: reader.line(), value });
-        }
-    }
-}
-
-/// The code and the value of a change. `real` is the text of a real.
-pub fn changed(command: &Command, real: &[u8]) -> Option<(IdCode, Changed)> {
-    match command {
-        Command::ChangeScalar(id, value) => Some((*id, Changed::Scalar(*value))),
-        Command::ChangeVector(id, values) => Some((*id, Changed::Vector(values.clone()))),
-        Command::ChangeReal(id, _) => Some((*id, Changed::Text(String::from_utf8_lossy(real).into_owned()))),
-        Command::ChangeString(id, text) => Some((*id, Changed::Text(text.clone()))),
-        _ => None,
+        let real = String::from_utf8_lossy(real_text(input, from, &command)).into_owned();
+        let (id, value) = match command {
+            Command::Timestamp(t) => {
+                time = Some(t);
+                continue;
+            }
+            Command::ChangeScalar(id, value) => (id, Changed::Scalar(value)),
+            Command::ChangeVector(id, values) => (id, Changed::Vector(values)),
+            Command::ChangeReal(id, _) => (id, Changed::Text(real)),
+            Command::ChangeString(id, text) => (id, Changed::Text(text)),
+            _ => continue,
+        };
+        data.changes.push(Change { id, time, line: reader.line(), value });
     }
 }
 
@@ -82,7 +78,8 @@ pub fn changed(command: &Command, real: &[u8]) -> Option<(IdCode, Changed)> {
 fn print(out: &mut String, changes: &[Change], id: IdCode, reference: &str, width: usize) -> bool {
     let mut own = changes.iter().filter(|change| change.id == id);
     for change in own.by_ref().take(ROWS) {
-        print_change(out, reference, change, width);
+        let time = change.time.map_or("-".to_string(), |t| t.to_string());
+        let _ = writeln!(out, "{reference} {time} {} {}", change.line, shown(&change.value, width));
     }
     let full = own.next().is_some();
     if full {
@@ -91,29 +88,14 @@ fn print(out: &mut String, changes: &[Change], id: IdCode, reference: &str, widt
     full
 }
 
-/// A change's line: the reference, the time, the line and the value, filled to the width.
-pub fn print_change(out: &mut String, reference: &str, change: &Change, width: usize) {
-    let time = change.time.map_or("-".to_string(), |t| t.to_string());
-    let _ = writeln!(out, "{reference} {time} {} {}", change.line, shown(&change.value, width));
-}
-
 fn shown(value: &Changed, width: usize) -> String {
     match value {
         Changed::Scalar(value) => value.to_string(),
         Changed::Vector(values) if width <= WIDEST => {
-            let fill = Vector::filled(left_fill(values), width.saturating_sub(values.len()));
+            let fill = Vector::zeros(width.saturating_sub(values.len()));
             format!("{fill}{values}")
         }
         Changed::Vector(values) => values.to_string(),
         Changed::Text(text) => text.clone(),
-    }
-}
-
-/// request 2: x and z fill themselves, 0 and 1 are filled with 0.
-fn left_fill(values: &Vector) -> Value {
-    match values.get(0) {
-        Some(Value::X) => Value::X,
-        Some(Value::Z) => Value::Z,
-        _ => Value::V0,
     }
 }

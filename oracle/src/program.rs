@@ -7,17 +7,10 @@ use std::fmt::Write;
 const LONGEST: usize = 65_536;
 const ROWS: usize = 256;
 
-/// Whether a dump is longer than the programs take; then their one line is printed.
-pub fn too_long(out: &mut String, input: &[u8]) -> bool {
-    if input.len() > LONGEST {
-        out.push_str("input too long\n");
-    }
-    input.len() > LONGEST
-}
-
 /// A dump whose header is whole: its rows, and the reader behind them. For others the program's one line is printed.
 pub fn opened(out: &mut String, input: &[u8]) -> Option<(Table, Reader)> {
-    if too_long(out, input) {
+    if input.len() > LONGEST {
+        out.push_str("input too long\n");
         return None;
     }
     let mut reader = Reader::new(input);

@@ -18,7 +18,7 @@ pub fn answer(out: &mut String, input: &[u8]) {
             Step::Done => out.push_str("done"),
             Step::Refused(number) => {
                 refusals += 1;
-                reader.refused(out, *number);
+                let _ = write!(out, "refused {number}");
             }
         }
         let _ = writeln!(out, " {} {}", reader.line(), reader.place());

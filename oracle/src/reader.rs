@@ -1,7 +1,5 @@
 //! The crate's parser, one command at a time, with the page's numbers and its rule for a timescale.
-use std::fmt::Write;
 use std::io::{self, Cursor};
-use std::num::IntErrorKind;
 use std::ops::Range;
 use vcd::{Command, InvalidIdCode, ParseError, ParseErrorKind, Parser, SimulationCommand};
 
@@ -15,20 +13,17 @@ pub struct Reader {
     parser: Parser<Cursor<Vec<u8>>>,
     /// Whether the last refusal was the page's and not the crate's.
     pub by_page: bool,
-    /// The reason of the last step's 9, from 1 in the order empty, invalid digit, too large, too small; else 0.
-    reason: u8,
 }
 
 impl Reader {
     pub fn new(input: &[u8]) -> Reader {
-        Reader { parser: Parser::new(Cursor::new(input.to_vec())), by_page: false, reason: 0 }
+        Reader { parser: Parser::new(Cursor::new(input.to_vec())), by_page: false }
     }
 
     pub fn step(&mut self) -> Step {
         self.mask_foreign_timescale();
         let step = self.parser.next();
         let line = self.line();
-        self.reason = 0;
         match step {
             None => Step::Done,
             Some(Ok(command)) => Step::Command(command),
@@ -36,18 +31,7 @@ impl Reader {
                 assert_eq!(number(&e, line), MASKED);
                 Step::Refused(11)
             }
-            Some(Err(e)) => {
-                self.reason = reason(&e);
-                Step::Refused(number(&e, line))
-            }
-        }
-    }
-
-    /// Writes the last step's refusal: its number, and 9 with its reason.
-    pub fn refused(&self, out: &mut String, number: u8) {
-        let _ = write!(out, "refused {number}");
-        if self.reason != 0 {
-            let _ = write!(out, ".{}", self.reason);
+            Some(Err(e)) => Step::Refused(number(&e, line)),
         }
     }
 
@@ -121,21 +105,6 @@ fn foreign_timescale(input: &[u8], at: usize) -> Option<Range<usize>> {
     let first = token(input, word.end)?;
     let text = std::str::from_utf8(&input[first.clone()]).ok()?;
     (first.len() <= 8 && !text.is_ascii()).then_some(first)
-}
-
-/// The number of the reason for which a number was refused; 0 of every other refusal.
-fn reason(error: &io::Error) -> u8 {
-    let inner = error.get_ref().and_then(|e| e.downcast_ref::<ParseError>());
-    let Some(ParseErrorKind::ParseIntError(e)) = inner.map(ParseError::kind) else {
-        return 0;
-    };
-    match e.kind() {
-        IntErrorKind::Empty => 1,
-        IntErrorKind::InvalidDigit => 2,
-        IntErrorKind::PosOverflow => 3,
-        IntErrorKind::NegOverflow => 4,
-        other => panic!("a reason with no number: {other:?}"),
-    }
 }
 
 /// The page's number of a refusal.

@@ -13,22 +13,16 @@ use vcd::{Command, Parser, Writer};
 const LENT: usize = 65_536;
 
 /// The bytes of every accepted command, and the writer's state.
-pub struct Anew {
-    pub bytes: Vec<u8>,
+struct Anew {
+    bytes: Vec<u8>,
     state: State,
-}
-
-impl Default for Anew {
-    fn default() -> Anew {
-        Anew { bytes: Vec::new(), state: State { depth: 0, next: 0, open: None } }
-    }
 }
 
 pub fn answer(out: &mut String, input: &[u8]) {
     let Some((table, mut reader)) = opened(out, input) else {
         return;
     };
-    let mut anew = Anew::default();
+    let mut anew = Anew { bytes: Vec::new(), state: State { depth: 0, next: 0, open: None } };
     let mut end = anew.header(&table).err().map(|number| (number, true));
     while end.is_none() {
         let from = reader.place();
@@ -36,7 +30,7 @@ pub fn answer(out: &mut String, input: &[u8]) {
             Step::Done => break,
             Step::Refused(number) => end = Some((number, reader.by_page)),
             Step::Command(command) => {
-                let done = anew.behind_header(&command, real_text(input, from, &command));
+                let done = anew.command(&command, real_text(input, from, &command), LENT);
                 end = done.err().map(|number| (number, true));
             }
         }
@@ -77,11 +71,6 @@ impl Anew {
     /// A command of the header, for which the rest of the call's bytes is left.
     fn of_header(&mut self, command: &Command) -> Result<(), u8> {
         self.command(command, b"", LENT - self.bytes.len())
-    }
-
-    /// A command behind the header, with a call of its own.
-    pub fn behind_header(&mut self, command: &Command, real: &[u8]) -> Result<(), u8> {
-        self.command(command, real, LENT)
     }
 
     fn command(&mut self, command: &Command, real: &[u8], room: usize) -> Result<(), u8> {

@@ -20,10 +20,10 @@ pub const VARS: [VarType; 18] = {
 };
 pub const VALUES: [Value; 4] = [Value::V0, Value::V1, Value::X, Value::Z];
 /// The name of call 1 and those after it.
-pub const NAMES: [&str; 20] = [
+pub const NAMES: [&str; 19] = [
     "comment", "date", "version", "timescale", "scope_def", "add_module", "upscope", "var_def", "add_var", "add_wire",
     "enddefinitions", "timestamp", "change_scalar", "change_vector", "change_real", "change_string", "begin", "end",
-    "header", "scope",
+    "header",
 ];
 
 /// A text's place in the source.
@@ -33,7 +33,6 @@ pub struct Text {
     pub len: u64,
 }
 
-#[derive(Clone)]
 pub enum Call {
     Comment(Text),
     Date(Text),
@@ -54,8 +53,6 @@ pub enum Call {
     Begin(SimulationCommand),
     End(SimulationCommand),
     Header(Table),
-    /// The scope of a row of a table.
-    Scope(u64, Table),
 }
 
 #[derive(Clone, Copy)]
@@ -117,11 +114,6 @@ impl<'a> Numbers<'a> {
         }
     }
 
-    /// All that are left, as words.
-    fn words(self) -> Vec<u64> {
-        self.0.map(|s| s.parse().expect("a word of a table")).collect()
-    }
-
     fn simulation(&mut self) -> SimulationCommand {
         simulation(self.next()).expect("a simulation command")
     }
@@ -150,8 +142,7 @@ pub fn call(line: &str) -> (usize, Call) {
         16 => Call::ChangeString(n.next(), n.text()),
         17 => Call::Begin(n.simulation()),
         18 => Call::End(n.simulation()),
-        19 => Call::Header(Table::new(n.words())),
-        20 => Call::Scope(n.next(), Table::bare(n.next(), n.words())),
+        19 => Call::Header(Table::new(n.0.map(|s| s.parse().expect("a word of a table")).collect())),
         other => panic!("no call {other}"),
     };
     (number, call)

@@ -1,8 +1,7 @@
-//! A header's call and a scope's: what is kept and the words of a table, good or bad (docs/ABI.md has the words).
+//! A header's call: what it keeps and the words of a table, good or bad (docs/ABI.md has the words).
 use crate::script::{Call, State, Text, SCOPES, UNITS, VARS};
-use crate::write::{by_scope, bytes_at, perform, text_of, Wrote};
-use std::str::from_utf8;
-use vcd::{IdCode, ReferenceIndex, Scope, ScopeItem, Var};
+use crate::write::{bytes_at, perform, text_of, Wrote};
+use vcd::ReferenceIndex;
 
 // page: a header has no more rows and no deeper scopes than these.
 pub const MOST_ROWS: u64 = 4096;
@@ -11,7 +10,6 @@ pub const ROW: usize = 10;
 pub const TOP: u64 = u64::MAX;
 
 /// A head's ten words (count of rows, date, version, timescale), and the table's.
-#[derive(Clone)]
 pub struct Table {
     head: Vec<u64>,
     words: Vec<u64>,
@@ -29,19 +27,13 @@ impl Table {
         Table { head: numbers, words }
     }
 
-    /// A table of which so many rows are asked for, with nothing kept.
-    pub fn bare(count: u64, words: Vec<u64>) -> Table {
-        let mut head = vec![0; ROW];
-        head[0] = count;
-        Table { head, words }
-    }
-
     /// What is kept, as the calls that write it.
     fn kept(&self) -> Vec<Call> {
         let text = |at: usize| Text { start: self.head[at + 1], len: self.head[at + 2] };
         let date = (self.head[1] == 1).then(|| Call::Date(text(1)));
         let version = (self.head[4] == 1).then(|| Call::Version(text(4)));
-        let timescale = (self.head[7] == 1).then(|| Call::Timescale(self.head[8] as u32, UNITS[self.head[9] as usize]));
+        let timescale =
+            (self.head[7] == 1).then(|| Call::Timescale(self.head[8] as u32, UNITS[self.head[9] as usize]));
         [date, version, timescale].into_iter().flatten().collect()
     }
 
@@ -81,14 +73,14 @@ fn index(form: u64, first: u64, second: u64) -> Option<Option<ReferenceIndex>> {
 }
 
 /// The calls that the rows amount to, with the upscopes between them; none where the table is bad.
-fn calls(rows: &[Option<Row>]) -> Option<Vec<Call>> {
+fn calls(rows: Vec<Option<Row>>) -> Option<Vec<Call>> {
     let mut calls = Vec::new();
     let mut open: Vec<u64> = Vec::new();
-    for (n, row) in rows.iter().enumerate() {
-        let Row { parent, call } = row.as_ref()?;
-        let stay = match *parent {
+    for (n, row) in rows.into_iter().enumerate() {
+        let Row { parent, call } = row?;
+        let stay = match parent {
             TOP => 0,
-            parent => 1 + open.iter().position(|scope| *scope == parent)?,
+            _ => 1 + open.iter().position(|scope| *scope == parent)?,
         };
         calls.extend(open.drain(stay..).map(|_| Call::Upscope));
         if matches!(call, Call::ScopeDef(..)) {
@@ -97,22 +89,25 @@ fn calls(rows: &[Option<Row>]) -> Option<Vec<Call>> {
             }
             open.push(n as u64);
         }
-        calls.push(call.clone());
+        calls.push(call);
     }
     calls.extend(open.iter().map(|_| Call::Upscope));
     calls.push(Call::Enddefinitions);
     Some(calls)
 }
 
-/// Whether a text of these calls lies outside the source.
-fn outside<'a>(source: &[u8], mut calls: impl Iterator<Item = &'a Call>) -> bool {
-    calls.any(|call| text_of(call).is_some_and(|t| bytes_at(source, t).is_none()))
-}
-
-/// Command by command: those before 22 or 21 stay.
-fn pour(source: &[u8], state: State, calls: &[Call], room: usize) -> (Option<u8>, Wrote) {
+// page: 25 for any text outside, then 23, and then command by command: those before 22 or 21 stay.
+pub fn header(source: &[u8], state: State, table: &Table, room: usize) -> (Option<u8>, Wrote) {
     let mut wrote = Wrote::nothing(state);
-    for call in calls {
+    let (kept, rows) = (table.kept(), table.rows());
+    let outside = |call: &Call| text_of(call).is_some_and(|t| bytes_at(source, t).is_none());
+    if kept.iter().any(outside) || rows.iter().flatten().any(|row| outside(&row.call)) {
+        return (Some(25), wrote);
+    }
+    let Some(calls) = calls(rows).filter(|_| table.head[0] <= MOST_ROWS) else {
+        return (Some(23), wrote);
+    };
+    for call in kept.iter().chain(&calls) {
         match perform(source, wrote.state, call, room - wrote.bytes.len()) {
             Ok(next) => {
                 wrote.bytes.extend(next.bytes);
@@ -122,69 +117,4 @@ fn pour(source: &[u8], state: State, calls: &[Call], room: usize) -> (Option<u8>
         }
     }
     (None, wrote)
-}
-
-// page: 25 for any text outside, then 23, and then the commands.
-pub fn header(source: &[u8], state: State, table: &Table, room: usize) -> (Option<u8>, Wrote) {
-    let (mut all, rows) = (table.kept(), table.rows());
-    if outside(source, all.iter().chain(rows.iter().flatten().map(|row| &row.call))) {
-        return (Some(25), Wrote::nothing(state));
-    }
-    let Some(calls) = calls(&rows).filter(|_| table.head[0] <= MOST_ROWS) else {
-        return (Some(23), Wrote::nothing(state));
-    };
-    all.extend(calls);
-    pour(source, state, &all, room)
-}
-
-/// A scope's calls, as the crate makes them: its own, those of its items, its upscope.
-fn scope_calls(rows: &[Row], n: usize) -> Vec<Call> {
-    let mut calls = vec![rows[n].call.clone()];
-    for (m, row) in rows.iter().enumerate().filter(|(_, row)| row.parent == n as u64) {
-        match row.call {
-            Call::ScopeDef(..) => calls.extend(scope_calls(rows, m)),
-            _ => calls.push(row.call.clone()),
-        }
-    }
-    calls.push(Call::Upscope);
-    calls
-}
-
-/// The crate's own scope of a row.
-fn scope_of(source: &[u8], rows: &[Row], n: usize) -> Scope {
-    let text = |t: Text| from_utf8(bytes_at(source, t).expect("judged before")).expect("judged before").to_string();
-    let Call::ScopeDef(scope_type, name) = rows[n].call else {
-        panic!("row {n} is no scope");
-    };
-    let mut scope = Scope::new(scope_type, text(name));
-    for (m, row) in rows.iter().enumerate().filter(|(_, row)| row.parent == n as u64) {
-        scope.items.push(match row.call {
-            Call::ScopeDef(..) => ScopeItem::Scope(scope_of(source, rows, m)),
-            Call::VarDef(t, width, id, name, index) => {
-                ScopeItem::Var(Var::new(t, width, IdCode::from(id), text(name), index))
-            }
-            Call::Comment(t) => ScopeItem::Comment(text(t)),
-            _ => panic!("row {m} is no item"),
-        });
-    }
-    scope
-}
-
-// page: as a header's call; a number that is no scope's row is 23. What is written whole is held to the crate's own call.
-pub fn scope(source: &[u8], state: State, row: u64, table: &Table, room: usize) -> (Option<u8>, Wrote) {
-    let rows = table.rows();
-    if outside(source, rows.iter().flatten().map(|row| &row.call)) {
-        return (Some(25), Wrote::nothing(state));
-    }
-    let good = table.head[0] <= MOST_ROWS && calls(&rows).is_some();
-    let rows: Vec<Row> = rows.into_iter().flatten().collect();
-    let n = row as usize;
-    if !good || row >= rows.len() as u64 || !matches!(rows[n].call, Call::ScopeDef(..)) {
-        return (Some(23), Wrote::nothing(state));
-    }
-    let (refused, wrote) = pour(source, state, &scope_calls(&rows, n), room);
-    if refused.is_none() {
-        assert_eq!(by_scope(state, &scope_of(source, &rows, n)), wrote.bytes);
-    }
-    (refused, wrote)
 }

@@ -12,8 +12,6 @@ pub fn name(kind: Kind, line: &str) -> Option<String> {
     match kind {
         Kind::List => listed(line),
         Kind::Reformat => written(line),
-        Kind::Real => told(line),
-        Kind::Verdict => judged(line),
         _ => answered(kind, line),
     }
 }
@@ -23,20 +21,11 @@ fn answered(kind: Kind, line: &str) -> Option<String> {
     let (first, second, third) = (words.next()?, words.next()?, words.next());
     match (kind, first, second) {
         (_, "case", _) => None,
-        (Kind::Header | Kind::Strict, _, "-") => None,
+        (Kind::Header, _, "-") => None,
         (Kind::Write, _, "refused") => Some(format!("{first} refused {}", third?)),
         (Kind::Write, _, _) => Some(format!("{first} {second}")),
         (_, "refused", _) => Some(format!("refused {second}")),
         _ => Some(first.to_string()),
-    }
-}
-
-/// A number whatever its bits, a text, or a refusal.
-fn told(line: &str) -> Option<String> {
-    match line.split(' ').next()? {
-        "case" => None,
-        "refused" => Some(line.to_string()),
-        first => Some(first.to_string()),
     }
 }
 
@@ -47,11 +36,6 @@ fn ended(words: &[&str]) -> Option<String> {
         ["input", "too", "long"] => Some(TOO_LONG.to_string()),
         _ => None,
     }
-}
-
-fn judged(line: &str) -> Option<String> {
-    let words: Vec<&str> = line.split(' ').collect();
-    ended(&words).or((line == "passed").then(|| line.to_string()))
 }
 
 fn listed(line: &str) -> Option<String> {
@@ -87,27 +71,19 @@ const TOO_LONG: &str = "input too long";
 /// What only a long dump shows, so that the programs' samples have little of it.
 pub fn is_rare(kind: Kind, name: &str) -> bool {
     let long = [TOO_LONG, "refused 19", "refused 20", "refused 21"];
-    matches!(kind, Kind::List | Kind::Reformat | Kind::Strict | Kind::Verdict) && long.contains(&name)
+    matches!(kind, Kind::List | Kind::Reformat) && long.contains(&name)
 }
 
 /// All that can occur in answers of a kind. 16 needs an id text converted directly, 8 a header.
 pub fn names(kind: Kind) -> Vec<String> {
     let refused = |n: &u8| format!("refused {n}");
     let read = [1, 2, 3, 4, 5, 6, 7, 9, 10, 11, 12, 13, 14, 15, 17, 18];
-    // 9 is told with its reason; too small arises inside an index alone, which is 14.
-    let reasoned = |n: &u8| {
-        if *n == 9 {
-            vec!["refused 9.1".into(), "refused 9.2".into(), "refused 9.3".into()]
-        } else {
-            vec![refused(n)]
-        }
-    };
     match kind {
-        Kind::Read => COMMANDS.iter().map(|c| c.to_string()).chain(read.iter().flat_map(reasoned)).collect(),
+        Kind::Read => COMMANDS.iter().map(|c| c.to_string()).chain(read.iter().map(refused)).collect(),
         Kind::Header => ["comment", "date", "version", "timescale", "scope", "var", "header"]
             .iter()
             .map(|c| c.to_string())
-            .chain(read.iter().chain(&[8, 19, 20]).flat_map(reasoned))
+            .chain(read.iter().chain(&[8, 19, 20]).map(refused))
             .collect(),
         Kind::Write => NAMES.iter().flat_map(|call| outcomes(call)).collect(),
         Kind::List => ["change", "change without a time", "full", TOO_LONG]
@@ -122,18 +98,6 @@ pub fn names(kind: Kind) -> Vec<String> {
             .map(|c| c.to_string())
             .chain(read.iter().chain(&[8, 19, 20, 21, 22]).map(refused))
             .collect(),
-        Kind::Real => ["number", "text", "refused 10"].map(str::to_string).to_vec(),
-        Kind::Verdict => ["passed", TOO_LONG]
-            .iter()
-            .map(|c| c.to_string())
-            .chain(read.iter().chain(&[8, 19, 20, 26, 27, 28]).map(refused))
-            .collect(),
-        Kind::Strict => COMMANDS
-            .iter()
-            .chain(&["header", "change", "wrote"])
-            .map(|c| c.to_string())
-            .chain(read.iter().chain(&[8, 19, 20, 26, 27, 28]).flat_map(reasoned))
-            .collect(),
     }
 }
 
@@ -147,7 +111,7 @@ fn outcomes(call: &str) -> Vec<String> {
     if !no_text.contains(&call) {
         outcomes.push(format!("{call} refused 25"));
     }
-    if ["header", "scope"].contains(&call) {
+    if call == "header" {
         outcomes.push(format!("{call} refused 23"));
     }
     outcomes

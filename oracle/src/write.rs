@@ -2,10 +2,10 @@
 use crate::form;
 use crate::script::{self, Call, State, Text, NAMES};
 use crate::stops::caught;
-use crate::table::{header, scope};
+use crate::table::header;
 use std::fmt::Write;
 use std::str::from_utf8;
-use vcd::{IdCode, Scope, VarType, Vector, Writer};
+use vcd::{IdCode, VarType, Vector, Writer};
 
 /// What an accepted call wrote, the state after it, and the id that it gave.
 pub struct Wrote {
@@ -33,7 +33,7 @@ pub fn answer(out: &mut String, case: &[u8]) {
             Some(number) => write!(out, " refused {number}"),
             None => write!(out, " ok"),
         };
-        if refusal.is_none() || matches!(call, Call::Header(_) | Call::Scope(..)) {
+        if refusal.is_none() || matches!(call, Call::Header(_)) {
             print(out, &wrote);
         }
         out.push('\n');
@@ -50,13 +50,10 @@ fn print(out: &mut String, wrote: &Wrote) {
     }
 }
 
-/// What a call writes, and the refusal that stopped it: only a header's call and a scope's write and are refused.
+/// What a call writes, and the refusal that stopped it: only a header's call writes and is refused.
 pub fn step(source: &[u8], state: State, call: &Call, room: usize) -> (Option<u8>, Wrote) {
     if let Call::Header(table) = call {
         return header(source, state, table, room);
-    }
-    if let Call::Scope(row, table) = call {
-        return scope(source, state, *row, table, room);
     }
     match perform(source, state, call, room) {
         Ok(wrote) => (None, wrote),
@@ -90,7 +87,7 @@ pub fn text_of(call: &Call) -> Option<Text> {
         VarDef(_, _, _, t, _) | AddVar(_, _, t, _) | AddWire(_, t) => Some(t),
         ChangeVector(_, t) | ChangeReal(_, t) | ChangeString(_, t) => Some(t),
         Timescale(..) | Upscope | Enddefinitions | Timestamp(_) | ChangeScalar(..) => None,
-        Begin(_) | End(_) | Header(_) | Scope(..) => None,
+        Begin(_) | End(_) | Header(_) => None,
     }
 }
 
@@ -112,7 +109,7 @@ fn unwritable(state: State, call: &Call, text: &[u8]) -> bool {
         ChangeReal(id, _) => id == u64::MAX || real(text).is_none(),
         ChangeString(id, _) => id == u64::MAX || bad_name(text),
         End(command) => state.open != Some(command),
-        Upscope | Enddefinitions | Timestamp(_) | Begin(_) | Header(_) | Scope(..) => false,
+        Upscope | Enddefinitions | Timestamp(_) | Begin(_) | Header(_) => false,
     }
 }
 
@@ -160,14 +157,6 @@ fn by_crate(state: State, call: &Call, text: &[u8]) -> Wrote {
     };
     let (depth, next) = probed(writer);
     Wrote { bytes, state: State { depth, next, open }, id }
-}
-
-/// What the crate's own call writes of a scope.
-pub fn by_scope(state: State, scope: &Scope) -> Vec<u8> {
-    let mut writer = primed(state);
-    writer.writer().clear();
-    writer.scope(scope).unwrap();
-    std::mem::take(writer.writer())
 }
 
 /// A writer of the crate in the given state.
@@ -220,7 +209,7 @@ fn make(w: &mut Writer<Vec<u8>>, call: &Call, text: &[u8]) -> Option<u64> {
         Call::ChangeString(id, _) => w.change_string(IdCode::from(id), words),
         Call::Begin(c) => w.begin(c),
         Call::End(_) => w.end(),
-        Call::Header(_) | Call::Scope(..) => panic!("a header or a scope is many commands"),
+        Call::Header(_) => panic!("a header is many commands"),
     };
     done.unwrap();
     None

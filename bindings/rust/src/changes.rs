@@ -37,10 +37,11 @@ pub struct Change<'a> {
 pub struct Changes<'a> {
     input: &'a [u8],
     code: IdCode,
-    /// A page: `count` rows, of which `taken` are handed out, and how it ended.
+    /// A page: `count` rows, of which `taken` are handed out; where it was listed from, and how it ended.
     rows: Vec<u64>,
     count: usize,
     taken: usize,
+    from: raw::Cursor,
     status: u64,
     /// Where the next page begins, and the last time before it.
     cursor: raw::Cursor,
@@ -55,6 +56,7 @@ impl<'a> Changes<'a> {
             rows: vec![0; PAGE * raw::CHANGE],
             count: 0,
             taken: 0,
+            from: cursor,
             status: raw::LIST_FULL,
             cursor,
             since: since.map_or(raw::SINCE_START, |time| [1, time]),
@@ -64,13 +66,14 @@ impl<'a> Changes<'a> {
     /// The next page.
     fn fetch(&mut self) {
         let (mut count, code) = (0, self.code.0);
+        self.from = self.cursor;
         self.status = raw::list_on(self.input, &mut self.cursor, &mut self.since, code, &mut self.rows, &mut count);
         self.count = count as usize;
         self.taken = 0;
     }
 
     fn error(&self, refusal: u64) -> io::Error {
-        parse_error(refusal, self.cursor).into()
+        parse_error(self.input, refusal, self.from, self.cursor).into()
     }
 }
 

@@ -6,13 +6,12 @@ use std::fmt::{self, Display};
 use std::io;
 use std::num::{ParseFloatError, ParseIntError};
 
-/// The names of the refusals 1 to 28.
-const NAMES: [&str; 28] = [
+/// The names of the refusals 1 to 25.
+const NAMES: [&str; 25] = [
     "UnexpectedEof", "InvalidUtf8", "UnexpectedCharacter", "TokenTooLong", "ExpectedEndCommand", "UnmatchedEnd",
     "UnknownCommand", "UnexpectedHeaderCommand", "ParseIntError", "ParseFloatError", "InvalidTimescaleUnit",
     "InvalidScopeType", "InvalidVarType", "InvalidReferenceIndex", "InvalidValueChar", "IdEmpty", "IdInvalidChars",
-    "IdTooLong", "TooDeep", "TableFull", "NoRoom", "NotWritable", "BadTable", "ListFull", "BadPlace", "BadQuantity",
-    "TimeBack", "UnknownId",
+    "IdTooLong", "TooDeep", "TableFull", "NoRoom", "NotWritable", "BadTable", "ListFull", "BadPlace",
 ];
 
 /// A refusal of the proved library. A [`crate::Writer`] answers it inside an [`io::Error`] of kind `InvalidInput`.
@@ -20,9 +19,9 @@ const NAMES: [&str; 28] = [
 pub struct Refusal(u64);
 
 impl Refusal {
-    /// The refusal of a number from 1 to 28.
+    /// The refusal of a number from 1 to 25.
     pub fn from_number(number: u64) -> Option<Refusal> {
-        (1..=28).contains(&number).then_some(Refusal(number))
+        (1..=25).contains(&number).then_some(Refusal(number))
     }
 
     /// The refusal inside an error of reading or writing.
@@ -31,7 +30,7 @@ impl Refusal {
         inner.downcast_ref::<ParseError>().map(ParseError::refusal).or_else(|| inner.downcast_ref().copied())
     }
 
-    /// Its number, 1 to 28.
+    /// Its number, 1 to 25.
     pub fn number(self) -> u64 {
         self.0
     }
@@ -93,8 +92,8 @@ impl ParseError {
     }
 }
 
-/// Errors that can be encountered while parsing. The last seven are not the crate's: it has the first of them as an [`io::ErrorKind`]
-/// alone, the next three are limits of the proved library, and the others its strict mode's.
+/// Errors that can be encountered while parsing. The last four are not the crate's: it has the first of them as an [`io::ErrorKind`]
+/// alone, and the others are limits of the proved library.
 #[derive(Debug, Clone)]
 #[non_exhaustive]
 #[allow(missing_docs)]
@@ -118,9 +117,6 @@ pub enum ParseErrorKind {
     TooDeep,
     TableFull,
     BadPlace,
-    BadQuantity,
-    TimeBack,
-    UnknownId,
 }
 
 impl ParseErrorKind {
@@ -145,9 +141,6 @@ impl ParseErrorKind {
             16..=18 => InvalidIdCode(crate::InvalidIdCode::of(number)),
             19 => TooDeep,
             20 => TableFull,
-            26 => BadQuantity,
-            27 => TimeBack,
-            28 => UnknownId,
             _ => BadPlace,
         }
     }
@@ -183,9 +176,6 @@ impl Display for ParseErrorKind {
             ParseErrorKind::TooDeep => f.write_str("more than 64 scopes open"),
             ParseErrorKind::TableFull => f.write_str("more than 4,096 items in header"),
             ParseErrorKind::BadPlace => f.write_str("input too long or changed while it was read"),
-            ParseErrorKind::BadQuantity => f.write_str("timescale of another quantity than 1, 10 or 100"),
-            ParseErrorKind::TimeBack => f.write_str("timestamp below the one before it"),
-            ParseErrorKind::UnknownId => f.write_str("change of an id that the header does not declare"),
         }
     }
 }

@@ -9,7 +9,7 @@
 //! * an error tells the library's refusal, its number and name ([`Refusal::of`]);
 //! * and the few of docs/DIFFERENCES.md.
 //!
-//! Added: [`Parser::changes`], the changes of one variable; [`strict_verdict`], a whole dump judged by strict IEEE mode.
+//! Added: [`Parser::changes`], the changes of one variable.
 //!
 //! Commands, headers and ids are read, and commands and ids written, by the library. Plain Rust makes the tree of a header from its
 //! rows, looks up in it, converts single names, values and indexes to and from text, and a real's text to and from `f64`.
@@ -29,7 +29,6 @@ mod parser;
 pub mod raw;
 mod record;
 mod scope;
-mod strict;
 mod vector;
 mod write;
 
@@ -40,7 +39,6 @@ pub use named::{InvalidScopeType, InvalidTimescaleUnit, InvalidValue, InvalidVar
 pub use named::{ScopeType, SimulationCommand, TimescaleUnit, Value, VarType};
 pub use parser::Parser;
 pub use scope::{Header, InvalidReferenceIndex, ReferenceIndex, Scope, ScopeItem, Var};
-pub use strict::strict_verdict;
 pub use vector::{Vector, VectorIter};
 pub use write::Writer;
 

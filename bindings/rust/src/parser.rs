@@ -75,7 +75,7 @@ impl<R: AsRef<[u8]>> Parser<R> {
         let at = self.taken * raw::RECORD;
         self.taken += 1;
         let command = command_of(self.input.as_ref(), &self.records[at..at + raw::RECORD]);
-        Some(command.ok_or_else(|| self.error(raw::BAD_PLACE, self.ahead).into()))
+        Some(command.ok_or_else(|| self.error(raw::BAD_PLACE, self.ahead, self.ahead).into()))
     }
 
     /// Parses the header of a VCD file into a `Header` struct.
@@ -83,7 +83,8 @@ impl<R: AsRef<[u8]>> Parser<R> {
     /// After returning, the stream has been read just past the `$enddefinitions` command and can be iterated to obtain the data.
     /// Unlike the crate's, it takes at most 4,096 items and 64 open scopes.
     pub fn parse_header(&mut self) -> io::Result<Header> {
-        let (mut to, mut head) = (self.cursor(), [0; raw::HEAD]);
+        let from = self.cursor();
+        let (mut to, mut head) = (from, [0; raw::HEAD]);
         let mut rows = vec![0; raw::MOST_ROWS * raw::ROW];
         let status = raw::header(self.input.as_ref(), &mut to, &mut rows, &mut head);
         let header = match status {
@@ -91,7 +92,7 @@ impl<R: AsRef<[u8]>> Parser<R> {
             refusal => Err(refusal),
         };
         self.stand_at(to);
-        header.map_err(|refusal| self.error(refusal, to).into())
+        header.map_err(|refusal| self.error(refusal, from, to).into())
     }
 
     /// Lists the changes of an id code from where the parser stands, which stays there. `since` is the last timestamp before that, or
@@ -118,12 +119,12 @@ impl<R: AsRef<[u8]>> Parser<R> {
 
     /// How reading ended behind the batch.
     fn end(&mut self) -> Option<io::Result<Command>> {
-        let status = self.status;
+        let (status, from) = (self.status, self.cursor());
         self.stand_at(self.ahead);
         self.over = status == raw::BAD_PLACE;
         match status {
             raw::OK | raw::DONE => None,
-            refusal => Some(Err(self.error(refusal, self.ahead).into())),
+            refusal => Some(Err(self.error(refusal, from, self.ahead).into())),
         }
     }
 
@@ -152,14 +153,14 @@ impl<R: AsRef<[u8]>> Parser<R> {
         cursor
     }
 
-    fn error(&self, refusal: u64, to: raw::Cursor) -> ParseError {
-        parse_error(refusal, to)
+    fn error(&self, refusal: u64, from: raw::Cursor, to: raw::Cursor) -> ParseError {
+        parse_error(self.input.as_ref(), refusal, from, to)
     }
 }
 
-/// A refusal whose call left this cursor.
-pub(crate) fn parse_error(refusal: u64, to: raw::Cursor) -> ParseError {
-    ParseError::new(refusal.into(), to[1], || int_error(to[4]))
+/// The refusal of what was read between two cursors.
+pub(crate) fn parse_error(input: &[u8], refusal: u64, from: raw::Cursor, to: raw::Cursor) -> ParseError {
+    ParseError::new(refusal.into(), to[1], || int_error(refused_command(input, from)))
 }
 
 impl<R: AsRef<[u8]>> Iterator for Parser<R> {
@@ -169,13 +170,27 @@ impl<R: AsRef<[u8]>> Iterator for Parser<R> {
     }
 }
 
-/// std's own error of a reason.
-fn int_error(reason: u64) -> ParseIntError {
-    let read = match reason {
-        1 => "".parse::<i8>(),
-        3 => "128".parse(),
-        4 => "-129".parse(),
-        _ => "x".parse(),
+/// The bytes read of the first command from a cursor on that is refused.
+fn refused_command(input: &[u8], mut cursor: raw::Cursor) -> &[u8] {
+    let mut record = [0; raw::RECORD];
+    loop {
+        let from = cursor[0] as usize;
+        if raw::next(input, &mut cursor, &mut record) != raw::OK {
+            return input.get(from..cursor[0] as usize).unwrap_or(&[]);
+        }
+    }
+}
+
+/// Why a command's number was none: std's own judgement of its token, the last that was read, which is what the crate answers. A
+/// timescale's quantity was empty, since up to eight digits are always a number.
+fn int_error(command: &[u8]) -> ParseIntError {
+    let blank = |c| matches!(c, ' ' | '\n' | '\r' | '\t');
+    let text = String::from_utf8_lossy(command);
+    let text = text.trim_matches(blank);
+    let error = match text.strip_prefix('#') {
+        Some(time) => time.trim_start_matches(blank).parse::<u64>().err(),
+        None if text.trim_start_matches('$').trim_start_matches(blank).starts_with("timescale") => None,
+        None => text.rsplit(blank).next().and_then(|width| width.parse::<u32>().err()),
     };
-    read.expect_err("no i8")
+    error.unwrap_or_else(|| "".parse::<u32>().expect_err("empty"))
 }

@@ -6,7 +6,7 @@
 #![allow(unsafe_code)]
 
 /// Words of a cursor, a writer, a time, a head, a record, a header's row and a change.
-pub const CURSOR: usize = 5;
+pub const CURSOR: usize = 4;
 pub const WRITER: usize = 3;
 pub const SINCE: usize = 2;
 pub const HEAD: usize = 10;
@@ -23,7 +23,7 @@ pub type Row = [u64; ROW];
 pub type Change = [u64; CHANGE];
 
 /// A cursor at the start of an input, a fresh writer, and no time.
-pub const CURSOR_START: Cursor = [0, 1, 0, 0, 0];
+pub const CURSOR_START: Cursor = [0, 1, 0, 0];
 pub const WRITER_START: Writer = [0, 0, 0];
 pub const SINCE_START: Since = [0, 0];
 
@@ -43,9 +43,6 @@ pub const LIST_FULL: u64 = 24;
 pub const BAD_PLACE: u64 = 25;
 pub const DONE: u64 = 255;
 
-/// A real that is a number.
-pub const NUMBER: u64 = 1;
-
 #[rustfmt::skip]
 extern "C" {
     fn vcd_next(input: *const u8, input_len: usize, cursor: *mut u64, cursor_len: usize, record: *mut u64, record_len: usize) -> u64;
@@ -58,38 +55,19 @@ extern "C" {
                       path_len: usize, row: *mut u64) -> u64;
     fn vcd_find_var(input: *const u8, input_len: usize, rows: *const u64, rows_len: usize, count: usize, path: *const u8,
                     path_len: usize, row: *mut u64) -> u64;
-    fn vcd_find_var_in(input: *const u8, input_len: usize, rows: *const u64, rows_len: usize, count: usize, scope: u64,
-                       reference: *const u8, reference_len: usize, row: *mut u64) -> u64;
     fn vcd_command(writer: *mut u64, writer_len: usize, src: *const u8, src_len: usize, record: *const u64, record_len: usize,
                    out: *mut u8, out_len: usize, count: *mut u64) -> u64;
     fn vcd_write_header(writer: *mut u64, writer_len: usize, src: *const u8, src_len: usize, head: *const u64, head_len: usize,
                         rows: *const u64, rows_len: usize, out: *mut u8, out_len: usize, count: *mut u64) -> u64;
-    fn vcd_write_scope(writer: *mut u64, writer_len: usize, src: *const u8, src_len: usize, rows: *const u64, rows_len: usize,
-                       n: usize, row: u64, out: *mut u8, out_len: usize, count: *mut u64) -> u64;
     fn vcd_rewrite(input: *const u8, input_len: usize, cursor: *mut u64, cursor_len: usize, writer: *mut u64, writer_len: usize,
                    out: *mut u8, out_len: usize, count: *mut u64, line: *mut u64) -> u64;
     fn vcd_list(input: *const u8, input_len: usize, cursor: *mut u64, cursor_len: usize, code: u64, rows: *mut u64, rows_len: usize,
                 count: *mut u64) -> u64;
     fn vcd_list_on(input: *const u8, input_len: usize, cursor: *mut u64, cursor_len: usize, since: *mut u64, since_len: usize,
                    code: u64, rows: *mut u64, rows_len: usize, count: *mut u64) -> u64;
-    fn vcd_index(rows: *const u64, rows_len: usize, n: usize, index: *mut u64, index_len: usize) -> u64;
-    fn vcd_strict_header(input: *const u8, input_len: usize, cursor: *mut u64, cursor_len: usize, rows: *mut u64, rows_len: usize,
-                         head: *mut u64, head_len: usize) -> u64;
-    fn vcd_strict_next(input: *const u8, input_len: usize, cursor: *mut u64, cursor_len: usize, since: *mut u64, since_len: usize,
-                       rows: *const u64, rows_len: usize, n: usize, index: *const u64, index_len: usize, record: *mut u64,
-                       record_len: usize) -> u64;
-    fn vcd_strict_list(input: *const u8, input_len: usize, cursor: *mut u64, cursor_len: usize, since: *mut u64, since_len: usize,
-                       head: *const u64, head_len: usize, n: usize, index: *const u64, index_len: usize, code: u64, rows: *mut u64,
-                       rows_len: usize, count: *mut u64) -> u64;
-    fn vcd_strict_rewrite(input: *const u8, input_len: usize, cursor: *mut u64, cursor_len: usize, since: *mut u64, since_len: usize,
-                          rows: *const u64, rows_len: usize, n: usize, index: *const u64, index_len: usize, writer: *mut u64,
-                          writer_len: usize, out: *mut u8, out_len: usize, count: *mut u64, line: *mut u64) -> u64;
-    fn vcd_verdict(input: *const u8, input_len: usize, rows: *mut u64, rows_len: usize, index: *mut u64, index_len: usize,
-                   cursor: *mut u64, cursor_len: usize, count: *mut u64) -> u64;
     fn vcd_change(rows: *const u64, rows_len: usize, i: usize, change: *mut u64, change_len: usize) -> u64;
     fn vcd_widen(input: *const u8, input_len: usize, start: usize, len: usize, width: u32, out: *mut u8, out_len: usize,
                  count: *mut u64) -> u64;
-    fn vcd_real(input: *const u8, input_len: usize, start: usize, len: usize, kind: *mut u64, number: *mut f64) -> u64;
     fn vcd_id_text(code: u64, out: *mut u8, out_len: usize, count: *mut u64) -> u64;
     fn vcd_id_code(text: *const u8, text_len: usize, code: *mut u64) -> u64;
 }
@@ -123,12 +101,6 @@ pub fn find_var(input: &[u8], rows: &[u64], count: usize, path: &[u8], row: &mut
     unsafe { vcd_find_var(input.as_ptr(), input.len(), rows, rows_len, count, path.as_ptr(), path.len(), row) }
 }
 
-pub fn find_var_in(input: &[u8], rows: &[u64], count: usize, scope: u64, reference: &[u8], row: &mut u64) -> u64 {
-    let (rows, rows_len) = (rows.as_ptr(), rows.len());
-    let (name, name_len) = (reference.as_ptr(), reference.len());
-    unsafe { vcd_find_var_in(input.as_ptr(), input.len(), rows, rows_len, count, scope, name, name_len, row) }
-}
-
 pub fn command(writer: &mut Writer, src: &[u8], record: &Record, out: &mut [u8], count: &mut u64) -> u64 {
     let (out, out_len) = (out.as_mut_ptr(), out.len());
     let (writer, record) = (writer.as_mut_ptr(), record.as_ptr());
@@ -149,21 +121,6 @@ pub fn write_header(
     unsafe {
         vcd_write_header(writer, WRITER, src.as_ptr(), src.len(), head, HEAD, rows, rows_len, out, out_len, count)
     }
-}
-
-pub fn write_scope(
-    writer: &mut Writer,
-    src: &[u8],
-    rows: &[u64],
-    n: usize,
-    row: u64,
-    out: &mut [u8],
-    count: &mut u64,
-) -> u64 {
-    let (out, out_len) = (out.as_mut_ptr(), out.len());
-    let (rows, rows_len) = (rows.as_ptr(), rows.len());
-    let writer = writer.as_mut_ptr();
-    unsafe { vcd_write_scope(writer, WRITER, src.as_ptr(), src.len(), rows, rows_len, n, row, out, out_len, count) }
 }
 
 pub fn rewrite(
@@ -197,127 +154,6 @@ pub fn list_on(
     unsafe { vcd_list_on(input.as_ptr(), input.len(), cursor, CURSOR, since, SINCE, code, rows, rows_len, count) }
 }
 
-/// A header's rows for the strict calls: their words, how many rows they are, and the index of them.
-#[derive(Clone, Copy)]
-pub struct Declared<'a> {
-    pub rows: &'a [u64],
-    pub n: usize,
-    pub index: &'a [u64],
-}
-
-pub fn index(rows: &[u64], n: usize, index: &mut [u64]) -> u64 {
-    unsafe { vcd_index(rows.as_ptr(), rows.len(), n, index.as_mut_ptr(), index.len()) }
-}
-
-pub fn strict_header(input: &[u8], cursor: &mut Cursor, rows: &mut [u64], head: &mut Head) -> u64 {
-    let (rows, rows_len) = (rows.as_mut_ptr(), rows.len());
-    let (cursor, head) = (cursor.as_mut_ptr(), head.as_mut_ptr());
-    unsafe { vcd_strict_header(input.as_ptr(), input.len(), cursor, CURSOR, rows, rows_len, head, HEAD) }
-}
-
-pub fn strict_next(
-    input: &[u8],
-    cursor: &mut Cursor,
-    since: &mut Since,
-    declared: Declared,
-    record: &mut Record,
-) -> u64 {
-    let (rows, index) = (declared.rows, declared.index);
-    let (cursor, since, record) = (cursor.as_mut_ptr(), since.as_mut_ptr(), record.as_mut_ptr());
-    unsafe {
-        vcd_strict_next(
-            input.as_ptr(),
-            input.len(),
-            cursor,
-            CURSOR,
-            since,
-            SINCE,
-            rows.as_ptr(),
-            rows.len(),
-            declared.n,
-            index.as_ptr(),
-            index.len(),
-            record,
-            RECORD,
-        )
-    }
-}
-
-pub fn strict_list(
-    input: &[u8],
-    cursor: &mut Cursor,
-    since: &mut Since,
-    declared: Declared,
-    code: u64,
-    rows: &mut [u64],
-    count: &mut u64,
-) -> u64 {
-    let (head, index) = (declared.rows, declared.index);
-    let (cursor, since) = (cursor.as_mut_ptr(), since.as_mut_ptr());
-    unsafe {
-        vcd_strict_list(
-            input.as_ptr(),
-            input.len(),
-            cursor,
-            CURSOR,
-            since,
-            SINCE,
-            head.as_ptr(),
-            head.len(),
-            declared.n,
-            index.as_ptr(),
-            index.len(),
-            code,
-            rows.as_mut_ptr(),
-            rows.len(),
-            count,
-        )
-    }
-}
-
-#[allow(clippy::too_many_arguments)]
-pub fn strict_rewrite(
-    input: &[u8],
-    cursor: &mut Cursor,
-    since: &mut Since,
-    declared: Declared,
-    writer: &mut Writer,
-    out: &mut [u8],
-    count: &mut u64,
-    line: &mut u64,
-) -> u64 {
-    let (rows, index) = (declared.rows, declared.index);
-    let (cursor, since, writer) = (cursor.as_mut_ptr(), since.as_mut_ptr(), writer.as_mut_ptr());
-    unsafe {
-        vcd_strict_rewrite(
-            input.as_ptr(),
-            input.len(),
-            cursor,
-            CURSOR,
-            since,
-            SINCE,
-            rows.as_ptr(),
-            rows.len(),
-            declared.n,
-            index.as_ptr(),
-            index.len(),
-            writer,
-            WRITER,
-            out.as_mut_ptr(),
-            out.len(),
-            count,
-            line,
-        )
-    }
-}
-
-pub fn verdict(input: &[u8], rows: &mut [u64], index: &mut [u64], cursor: &mut Cursor, count: &mut u64) -> u64 {
-    let (rows, rows_len) = (rows.as_mut_ptr(), rows.len());
-    let (index, index_len) = (index.as_mut_ptr(), index.len());
-    let cursor = cursor.as_mut_ptr();
-    unsafe { vcd_verdict(input.as_ptr(), input.len(), rows, rows_len, index, index_len, cursor, CURSOR, count) }
-}
-
 pub fn change(rows: &[u64], i: usize, change: &mut Change) -> u64 {
     unsafe { vcd_change(rows.as_ptr(), rows.len(), i, change.as_mut_ptr(), CHANGE) }
 }
@@ -325,10 +161,6 @@ pub fn change(rows: &[u64], i: usize, change: &mut Change) -> u64 {
 pub fn widen(input: &[u8], start: usize, len: usize, width: u32, out: &mut [u8], count: &mut u64) -> u64 {
     let (out, out_len) = (out.as_mut_ptr(), out.len());
     unsafe { vcd_widen(input.as_ptr(), input.len(), start, len, width, out, out_len, count) }
-}
-
-pub fn real(input: &[u8], start: usize, len: usize, kind: &mut u64, number: &mut f64) -> u64 {
-    unsafe { vcd_real(input.as_ptr(), input.len(), start, len, kind, number) }
 }
 
 pub fn id_text(code: u64, out: &mut [u8], count: &mut u64) -> u64 {

@@ -1,5 +1,5 @@
 //! The library's words (docs/ABI.md) as commands and header trees. Words that the library did not make give none.
-use crate::raw::{self, Head, Record, Row, NONE, ROW};
+use crate::raw::{Head, Record, Row, NONE, ROW};
 use crate::{Command, Header, IdCode, ReferenceIndex, Scope, ScopeItem, ScopeType, SimulationCommand};
 use crate::{TimescaleUnit, Value, Var, VarType, Vector};
 
@@ -41,7 +41,7 @@ pub(crate) fn command_of(input: &[u8], record: &[u64]) -> Option<Command> {
         kind::TIME => Command::Timestamp(number),
         kind::SCALAR => Command::ChangeScalar(id, Value::of(kind_type)?),
         kind::VECTOR => Command::ChangeVector(id, Vector::parse(bytes_at(input, start, len)?).ok()?),
-        kind::REAL => Command::ChangeReal(id, real_at(input, start, len)?),
+        kind::REAL => Command::ChangeReal(id, str_at(input, start, len)?.parse().ok()?),
         kind::STRING => Command::ChangeString(id, string_at(input, start, len)?),
         kind::BEGIN => Command::Begin(SimulationCommand::of(kind_type)?),
         kind::END => Command::End(SimulationCommand::of(kind_type)?),
@@ -56,16 +56,6 @@ pub(crate) fn bytes_at(input: &[u8], start: u64, len: u64) -> Option<&[u8]> {
 
 fn str_at(input: &[u8], start: u64, len: u64) -> Option<&str> {
     std::str::from_utf8(bytes_at(input, start, len)?).ok()
-}
-
-/// A real's f64: the library's where it answers a number, else what Rust reads in the text.
-fn real_at(input: &[u8], start: u64, len: u64) -> Option<f64> {
-    let (mut kind, mut number) = (0, 0.0);
-    match raw::real(input, usize::try_from(start).ok()?, usize::try_from(len).ok()?, &mut kind, &mut number) {
-        raw::OK if kind == raw::NUMBER => Some(number),
-        raw::OK => str_at(input, start, len)?.parse().ok(),
-        _ => None,
-    }
 }
 
 fn string_at(input: &[u8], start: u64, len: u64) -> Option<String> {

@@ -1,9 +1,9 @@
-//! The exported functions that the crate's shapes do not need: listing, widening, rewriting, whole headers, look-ups, reals and strict
-//! mode, held to the recorded answers of the programs vcd_list, vcd_reformat, vcd_strict, find_tests and replay_real.
+//! The exported functions that the crate's shapes do not need: listing, widening, rewriting, whole headers and look-ups, held to the
+//! recorded answers of the programs vcd_list, vcd_reformat and find_tests.
 mod common;
 use common::{answers, cases, dumps, file};
-use vcd_proved::raw::{self, CHANGE, CURSOR_START, HEAD, LIST_FULL, NONE, NUMBER, OK, ROW, SINCE_START, WRITER_START};
-use vcd_proved::{strict_verdict, Command, IdCode, Parser, Refusal};
+use vcd_proved::raw::{self, CHANGE, CURSOR_START, HEAD, LIST_FULL, NONE, OK, ROW, SINCE_START, WRITER_START};
+use vcd_proved::{Command, IdCode, Parser};
 
 /// The programs' limits.
 const TAKEN: usize = 65536;
@@ -126,61 +126,6 @@ fn compare(kind: &str, answer: impl Fn(&[u8]) -> Vec<u8>) {
     assert!(all == answers(kind), "{kind} differs from the recorded answers");
 }
 
-/// What vcd_strict prints: the program's table has 256 rows, the package's as many as a header can have.
-fn verdict(dump: &[u8]) -> Vec<u8> {
-    if dump.len() > TAKEN {
-        return b"input too long\n".to_vec();
-    }
-    let (mut rows, mut index) = (vec![0; HEADER * ROW], vec![0; 4 * HEADER]);
-    let (mut cursor, mut count) = (CURSOR_START, 0);
-    let status = raw::verdict(dump, &mut rows, &mut index, &mut cursor, &mut count);
-    if count < HEADER as u64 {
-        let told = strict_verdict(dump).map_err(|e| Refusal::of(&e).expect("a refusal").number());
-        assert_eq!(told.err().unwrap_or(OK), status);
-    }
-    if status == OK {
-        b"passed\n".to_vec()
-    } else {
-        refused(status, cursor[1])
-    }
-}
-
-#[test]
-fn verdicts_are_as_recorded() {
-    compare("verdict", verdict);
-}
-
-/// The commands of a dump behind its strict header, up to the end or the first refusal, by an index or by none.
-fn strictly(dump: &[u8], index: &[u64], read: &Read) -> (Vec<raw::Record>, u64, raw::Cursor) {
-    let (mut cursor, mut since, mut record, mut all) = (read.cursor, SINCE_START, [0; raw::RECORD], Vec::new());
-    let declared = raw::Declared { rows: &read.rows, n: read.head[0] as usize, index };
-    loop {
-        match raw::strict_next(dump, &mut cursor, &mut since, declared, &mut record) {
-            OK => all.push(record),
-            status => return (all, status, cursor),
-        }
-    }
-}
-
-#[test]
-fn an_index_changes_no_answer() {
-    let mut refused = 0;
-    for dump in cases("verdict") {
-        let mut read = Read { cursor: CURSOR_START, rows: vec![0; HEADER * ROW], head: [0; HEAD], status: OK };
-        read.status = raw::strict_header(&dump, &mut read.cursor, &mut read.rows, &mut read.head);
-        if read.status != OK {
-            continue;
-        }
-        let mut index = vec![0; 4 * HEADER];
-        assert_eq!(raw::index(&read.rows, read.head[0] as usize, &mut index), OK);
-        let by_index = strictly(&dump, &index, &read);
-        let wrong: Vec<u64> = (0..300).map(|i| i * 7 % 11).collect();
-        assert!(strictly(&dump, &[], &read) == by_index && strictly(&dump, &wrong, &read) == by_index);
-        refused += (by_index.1 != raw::DONE) as u64;
-    }
-    assert!(refused > 20, "too few refusals: {refused}");
-}
-
 #[test]
 fn listings_are_as_recorded() {
     compare("list", list);
@@ -231,21 +176,6 @@ fn told(parser: &mut Parser<&[u8]>, code: IdCode) -> Vec<(Option<u64>, u64)> {
 }
 
 #[test]
-fn reals_are_as_recorded() {
-    let mut told = String::new();
-    for (n, text) in cases("real").iter().enumerate() {
-        let (mut kind, mut number) = (7, 0.75);
-        let answer = match raw::real(text, 0, text.len(), &mut kind, &mut number) {
-            OK if kind == NUMBER => format!("number {}", number.to_bits()),
-            OK => "text".to_string(),
-            refused => format!("refused {refused}"),
-        };
-        told += &format!("case {n}\n{answer}\n");
-    }
-    assert!(told.as_bytes() == answers("real"));
-}
-
-#[test]
 fn changes_are_those_of_the_commands() {
     for dump in dumps() {
         let mut parser = Parser::new(&dump[..]);
@@ -286,13 +216,6 @@ fn look_ups_are_as_recorded() {
         assert_eq!(found(&input, &rows, row), wanted.next().unwrap(), "scope {path:?}");
         assert_eq!(raw::find_var(&input, &rows, count, bytes, &mut row), OK);
         assert_eq!(found(&input, &rows, row), wanted.next().unwrap(), "var {path:?}");
-        row = NONE;
-        if let Some((parent, name)) = path.rsplit_once(' ') {
-            let mut scope = NONE;
-            assert_eq!(raw::find_scope(&input, &rows, count, parent.as_bytes(), &mut scope), OK);
-            assert_eq!(raw::find_var_in(&input, &rows, count, scope, name.as_bytes(), &mut row), OK);
-        }
-        assert_eq!(found(&input, &rows, row), wanted.next().unwrap(), "in {path:?}");
         let names: Vec<&str> = if path.is_empty() { Vec::new() } else { path.split(' ').collect() };
         assert_eq!(format!("{:?}", header.find_scope(&names)), format!("{:?}", theirs.find_scope(&names)));
         assert_eq!(format!("{:?}", header.find_var(&names)), format!("{:?}", theirs.find_var(&names)));
@@ -307,37 +230,5 @@ fn rows_outside_are_not_found() {
     let mut row = 7;
     assert_eq!(raw::find_scope(b"abc", &rows, 1, b"abc", &mut row), raw::BAD_PLACE);
     assert_eq!(raw::find_var(b"abc", &rows, 1, b"abc", &mut row), raw::BAD_PLACE);
-    assert_eq!(raw::find_var_in(b"abc", &rows, 1, 0, b"abc", &mut row), raw::BAD_PLACE);
     assert_eq!(row, 7);
-}
-
-/// Every scope of the recorded dumps that the crate's own call writes, written alike from the rows.
-#[test]
-fn scopes_are_written_as_the_crate_does() {
-    let mut scopes = 0;
-    for dump in dumps() {
-        let Read { rows, head, status, .. } = read_header(&dump);
-        if status != OK {
-            continue;
-        }
-        let theirs = vcd::Parser::new(&dump[..]).parse_header().unwrap();
-        let (mut n, mut todo) = (0, theirs.items.iter().rev().collect::<Vec<_>>());
-        while let Some(item) = todo.pop() {
-            if let vcd::ScopeItem::Scope(scope) = item {
-                todo.extend(scope.items.iter().rev());
-                let mut writer = vcd::Writer::new(Vec::new());
-                writer.scope(scope).unwrap();
-                let (mut state, mut room, mut count) = (WRITER_START, vec![0; TAKEN], 0);
-                let status = raw::write_scope(&mut state, &dump, &rows, head[0] as usize, n, &mut room, &mut count);
-                let wrote = &room[..count as usize];
-                // What the crate writes longer, or may not be written here, stops it.
-                assert!(writer.writer().starts_with(wrote));
-                assert!(status == OK && wrote.len() == writer.writer().len() || status > OK);
-                scopes += usize::from(status == OK);
-            }
-            n += 1;
-        }
-    }
-    println!("{scopes} headers' scopes written alike");
-    assert!(scopes > 100);
 }

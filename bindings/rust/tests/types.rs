@@ -117,7 +117,7 @@ fn refusals_have_the_pages_names() {
             names.extend(numbers.into_iter().zip(cells[2].split(", ").map(str::to_string)));
         }
     }
-    assert_eq!(names.len(), 28);
+    assert_eq!(names.len(), 25);
     for (number, name) in names {
         assert_eq!(vcd_proved::Refusal::from_number(number).unwrap().name(), name);
     }

@@ -104,9 +104,7 @@ fn rewrite(dump: &[u8], mut pair: Pair, count: &mut [usize; 4]) {
 fn commands_are_written_as_the_crate_does() {
     hush_the_crate();
     let mut count = [0; 4];
-    // A real that the crate writes in 301 digits: recorded dumps need not have one.
-    let long = b"r1e300 !\n".to_vec();
-    dumps().iter().chain([&long]).for_each(|dump| rewrite(dump, Pair::new(), &mut count));
+    dumps().iter().for_each(|dump| rewrite(dump, Pair::new(), &mut count));
     let [same, stopped, deep, reals] = count;
     println!("{same} commands written alike, {stopped} refused where the crate stops, {deep} too deep, {reals} reals over 32 bytes");
     assert!(same > 10_000 && stopped > 100 && deep > 0 && reals > 0);
@@ -310,12 +308,12 @@ fn compare_call(w: &mut Writer<Vec<u8>>, source: &[u8], line: &str, wanted: &str
     true
 }
 
-/// A header's call or a scope's over the words of a table, which safe Rust does not hand over; the C driver makes it.
-fn is_table(line: &str) -> bool {
-    matches!(Words::of(line).0.nth(1), Some("19" | "20"))
+/// A header's call over the words of a table, which safe Rust does not hand over; the C driver makes it.
+fn is_header(line: &str) -> bool {
+    Words::of(line).0.nth(1) == Some("19")
 }
 
-/// Calls compared and left out, in one case: those from a header's call or a scope's on are left out, for these move the state.
+/// Calls compared and left out, in one case: those from a header's call on are left out, for it moves the state.
 fn replay(case: &[u8], recorded: &[&str]) -> (usize, usize) {
     let mut rest = case;
     let first = take_line(&mut rest);
@@ -325,7 +323,7 @@ fn replay(case: &[u8], recorded: &[&str]) -> (usize, usize) {
     let asked = match brought(&first) {
         None => 0,
         Some(mut w) => {
-            let asked = calls.iter().zip(recorded).take_while(|(line, _)| !is_table(line));
+            let asked = calls.iter().zip(recorded).take_while(|(line, _)| !is_header(line));
             asked.filter(|(line, wanted)| compare_call(&mut w, source, line, wanted)).count()
         }
     };

@@ -1,6 +1,8 @@
 // The rows of a listing: six words each. Whether there is a time (0, 1), the time, the line, the kind (1 scalar, 2 vector, 3 real,
 // 4 string), start and length of the value in the input. And the last time alone, in the first two of these words, for callers that
 // keep it from one listing to the next.
+#![tactic(auto)]
+
 ghost use Rattle.std.specs.Prelude.{◌≡◌, [], ◌∷◌, ◌+◌, ◌*◌, ◌≤◌, length};
 ghost use Rattle.change.specs.Rows.{change_at, change_of, change_words, is_since, kind_number, kind_of, put, since_in, since_of, since_words};
 
@@ -8,13 +10,13 @@ use command::Time;
 use text::Text;
 
 // The last timestamp that was read, or none.
-#[derive(Drop)]
+#[derive(Clone, Copy)]
 pub enum Since {
     None,
     Time(Time),
 }
 
-#[derive(Drop)]
+#[derive(Clone, Copy)]
 pub enum ChangeKind {
     Scalar,
     Vector,
@@ -23,14 +25,14 @@ pub enum ChangeKind {
 }
 
 // A row by value: its time, line, kind and value; none where there is none, or where the words are no row.
-#[derive(Drop)]
+#[derive(Clone, Copy)]
 pub enum Change {
     Is(Since, u64, ChangeKind, Text),
     None,
 }
 
 // The time that words are; bad where they are none.
-#[derive(Drop)]
+#[derive(Clone, Copy)]
 pub enum SinceRead {
     Is(Since),
     Bad,

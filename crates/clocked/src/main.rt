@@ -1,5 +1,7 @@
 // The example of the crate's documentation: a shift register is written bit by bit as a clock and a data signal, and decoded again.
 // Prints the dump and the number that was decoded. Its stored output was made by the crate (oracle/record).
+#![tactic(auto)]
+
 mod read;
 mod write_dump;
 

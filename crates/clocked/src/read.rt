@@ -8,7 +8,7 @@ use token::Cursor;
 use value::Value;
 
 // What is known so far.
-#[derive(Drop)]
+#[derive(Clone, Copy)]
 struct Register {
     bits: u32,
     data: bool,

@@ -9,7 +9,7 @@ use value::Value;
 use write::{Added, Writer, Written};
 
 // The dump so far: how many bytes, and the state.
-#[derive(Drop)]
+#[derive(Clone, Copy)]
 struct Dump {
     len: usize,
     writer: Writer,

@@ -1,4 +1,2 @@
 pub mod Ends
 pub mod Numbers
-pub mod Reasons
-pub mod Refusals

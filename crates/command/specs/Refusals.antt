@@ -1,7 +1,6 @@
--- The page's number of each refusal, and the reason of 9.
+-- The page's number of each refusal.
 use Rattle.std.specs.Prelude.{ℕ}
 use Rattle.idcode.specs.declared.InvalidIdCode.{InvalidIdCode}
-use Rattle.number.specs.Decimal.{reason_number}
 use Rattle.command.specs.declared.Refusal.{Refusal}
 
 abbrev pub number_of : Refusal → ℕ
@@ -13,7 +12,7 @@ number_of Refusal.ExpectedEndCommand = 5
 number_of Refusal.UnmatchedEnd = 6
 number_of Refusal.UnknownCommand = 7
 number_of Refusal.UnexpectedHeaderCommand = 8
-number_of (Refusal.ParseIntError e) = 9
+number_of Refusal.ParseIntError = 9
 number_of Refusal.ParseFloatError = 10
 number_of Refusal.InvalidTimescaleUnit = 11
 number_of Refusal.InvalidScopeType = 12
@@ -30,40 +29,6 @@ number_of Refusal.NotWritable = 22
 number_of Refusal.BadTable = 23
 number_of Refusal.ListFull = 24
 number_of Refusal.BadPlace = 25
-number_of Refusal.BadQuantity = 26
-number_of Refusal.TimeBack = 27
-number_of Refusal.UnknownId = 28
-
--- 9 has a reason, its number from 1; every other refusal has 0.
-abbrev pub reason_of : Refusal → ℕ
-reason_of Refusal.UnexpectedEof = 0
-reason_of Refusal.InvalidUtf8 = 0
-reason_of Refusal.UnexpectedCharacter = 0
-reason_of Refusal.TokenTooLong = 0
-reason_of Refusal.ExpectedEndCommand = 0
-reason_of Refusal.UnmatchedEnd = 0
-reason_of Refusal.UnknownCommand = 0
-reason_of Refusal.UnexpectedHeaderCommand = 0
-reason_of (Refusal.ParseIntError e) = reason_number e
-reason_of Refusal.ParseFloatError = 0
-reason_of Refusal.InvalidTimescaleUnit = 0
-reason_of Refusal.InvalidScopeType = 0
-reason_of Refusal.InvalidVarType = 0
-reason_of Refusal.InvalidReferenceIndex = 0
-reason_of Refusal.InvalidValueChar = 0
-reason_of Refusal.IdEmpty = 0
-reason_of Refusal.IdInvalidChars = 0
-reason_of Refusal.IdTooLong = 0
-reason_of Refusal.TooDeep = 0
-reason_of Refusal.TableFull = 0
-reason_of Refusal.NoRoom = 0
-reason_of Refusal.NotWritable = 0
-reason_of Refusal.BadTable = 0
-reason_of Refusal.ListFull = 0
-reason_of Refusal.BadPlace = 0
-reason_of Refusal.BadQuantity = 0
-reason_of Refusal.TimeBack = 0
-reason_of Refusal.UnknownId = 0
 
 -- The refusal of a text that a leaf does not take: as an id, as a unit of time, as a type of a scope or of a variable, as an index.
 abbrev pub id_refusal : InvalidIdCode → Refusal

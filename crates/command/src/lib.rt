@@ -1,26 +1,27 @@
 // The commands of a dump, and every refusal with the number that the page gives it (the records of lib.rs of vcd 0.7.0).
 // Texts and vectors are places in the lent input.
+#![tactic(auto)]
+
 ghost use Rattle.std.specs.Prelude.{◌≡◌, ◌≤◌, length, drop};
 ghost use Rattle.text.specs.Bytes.{bytes, starts};
 ghost use Rattle.text.specs.Names.{lookup};
 ghost use Rattle.text.specs.Texts.{spelled};
 ghost use Rattle.command.specs.Words.{sim_name, words, word_of, end_mark, first_end};
-ghost use Rattle.command.specs.Refusals.{number_of, reason_of, id_refusal};
+ghost use Rattle.command.specs.Refusals.{number_of, id_refusal};
 ghost use Rattle.command.specs.Numbers.{sim_number, sim_of};
 
 use idcode::{IdCode, InvalidIdCode};
-use number::IntError;
 use scope::{ReferenceIndex, ScopeType, VarType};
 use text::{Found, Spelled, Text};
 use timescale::TimescaleUnit;
 use value::Value;
 
 // A time, in units of the timescale.
-#[derive(Drop)]
+#[derive(Clone, Copy)]
 pub struct Time(pub u64);
 
 // An element in a VCD file.
-#[derive(Drop)]
+#[derive(Clone, Copy)]
 pub enum Command {
     Comment(Text),
     Date(Text),
@@ -40,7 +41,7 @@ pub enum Command {
 }
 
 // A simulation command type, used in `Command::Begin` and `Command::End`.
-#[derive(Drop)]
+#[derive(Clone, Copy)]
 pub enum SimulationCommand {
     Dumpall,
     Dumpoff,
@@ -49,13 +50,13 @@ pub enum SimulationCommand {
 }
 
 // The simulation command that is open.
-#[derive(Drop)]
+#[derive(Clone, Copy)]
 pub enum Open {
     None,
     Of(SimulationCommand),
 }
 
-#[derive(Drop)]
+#[derive(Clone, Copy)]
 pub enum Refusal {
     UnexpectedEof,
     InvalidUtf8,
@@ -65,7 +66,7 @@ pub enum Refusal {
     UnmatchedEnd,
     UnknownCommand,
     UnexpectedHeaderCommand,
-    ParseIntError(IntError),
+    ParseIntError,
     ParseFloatError,
     InvalidTimescaleUnit,
     InvalidScopeType,
@@ -82,9 +83,6 @@ pub enum Refusal {
     BadTable,
     ListFull,
     BadPlace,
-    BadQuantity,
-    TimeBack,
-    UnknownId,
 }
 
 // The words after `$`, compared in reading and written by the writer.
@@ -116,7 +114,7 @@ pub const DUMPVARS: [u8; 8] = *b"dumpvars";
 pub const END: [u8; 4] = *b"$end";
 
 // The words after `$`.
-#[derive(Drop)]
+#[derive(Clone, Copy)]
 pub enum Word {
     Comment,
     Date,
@@ -285,7 +283,7 @@ impl Refusal {
             Refusal::UnmatchedEnd => 6,
             Refusal::UnknownCommand => 7,
             Refusal::UnexpectedHeaderCommand => 8,
-            Refusal::ParseIntError(_) => 9,
+            Refusal::ParseIntError => 9,
             Refusal::ParseFloatError => 10,
             Refusal::InvalidTimescaleUnit => 11,
             Refusal::InvalidScopeType => 12,
@@ -302,19 +300,6 @@ impl Refusal {
             Refusal::BadTable => 23,
             Refusal::ListFull => 24,
             Refusal::BadPlace => 25,
-            Refusal::BadQuantity => 26,
-            Refusal::TimeBack => 27,
-            Refusal::UnknownId => 28,
-        }
-    }
-
-    // The number of a refused number's reason; 0 of every other refusal.
-    pub fn reason(self) -> u64
-        ensures { result ≡ reason_of self }
-    {
-        match self {
-            Refusal::ParseIntError(e) => e.number(),
-            _ => 0,
         }
     }
 }

@@ -1,11 +1,13 @@
 // The programs' descriptors, and short texts put into a buffer: what the programs share. Nothing is promised of these but that they are
 // safe and end.
+#![tactic(auto)]
+
 ghost use Rattle.std.specs.Prelude.{◌≤◌};
 
 pub use text::front;
 
 // What was read of standard input: so many bytes, up to its end or the buffer's; or nothing that can be counted on.
-#[derive(Drop)]
+#[derive(Clone, Copy)]
 pub enum Input {
     Read(usize),
     Failed,

@@ -1,5 +1,7 @@
 // Texts put at the start of an output: all of a text where it has room, else nothing. Parts of the writer and of what prints lines,
 // which hand over room; users call those.
+#![tactic(auto)]
+
 ghost use Rattle.std.specs.Prelude.{◌≡◌, [], ◌∷◌, ◌++◌, map, ◌+◌, ◌/◌, ◌%◌, ◌≤◌, ◌<◌, leb, length, take, drop};
 ghost use Rattle.text.specs.Bytes.{bytes};
 ghost use Rattle.text.specs.Texts.{put_answer, put_bytes};

@@ -1,4 +1,6 @@
 // The contracts of writing definitions once more, each over its call: wrong programs are edits of these.
+#![tactic(auto)]
+
 ghost use Rattle.write.specs.Call.{call, Does};
 ghost use Rattle.std.specs.Prelude.{[]};
 

@@ -10,7 +10,7 @@ use Rattle.text.specs.Names.{lookup}
 use Rattle.text.specs.Texts.{part, too_long}
 use Rattle.utf8.specs.Utf8.{lies, due_after, well_formed, valid_utf8}
 use Rattle.white_space.specs.WhiteSpace.{begins_with, blank_at, blanks, all_white, kept_of}
-use Rattle.number.specs.Decimal.{is_digit, all_digits, value, number_from, digits_below, parse_below, digits_of}
+use Rattle.number.specs.Decimal.{is_digit, all_digits, value, number_from, digits_below, unsigned, parse_below, digits_of}
 use Rattle.token.specs.Read.{byte_read, end_read, after, gap, word, skipped, word_token, word_here, token, text_to, text_from}
 use Rattle.parser_part.specs.Plan.{run, kind_of}
 use Rattle.parser.specs.Next.{is_good, found, next_from, fresh}
@@ -41,12 +41,12 @@ row = refl
 
 -- a record of kind 9
 record-made : front (records_filled (read_of (bytes "#1 ") fresh (zeros 9)).commands (zeros 9)) ≡ 9
-unfolding read_of records_taken records_words record_listed commands commands_on next_from is_good found kind_of run skipped gap word after byte_read is_blank has token word_here word_token part valid_utf8 well_formed due_after lies parse_below digits_below number_from all_digits value is_digit
+unfolding read_of records_taken records_words record_listed commands commands_on next_from is_good found kind_of run skipped gap word after byte_read is_blank has token word_here word_token part valid_utf8 well_formed due_after lies parse_below unsigned digits_below number_from all_digits value is_digit
 record-made = refl
 
 -- a hash
 hash : front (bytes_filled (rewrite_of (bytes "#1 ") fresh fresh_writer (zeros 3)).bytes (zeros 3)) ≡ 35
-unfolding rewrite_of rewritten layout state_after digits_of commands commands_on next_from is_good found kind_of run skipped gap word after byte_read is_blank has token word_here word_token part valid_utf8 well_formed due_after lies parse_below digits_below number_from all_digits value is_digit
+unfolding rewrite_of rewritten layout state_after digits_of commands commands_on next_from is_good found kind_of run skipped gap word after byte_read is_blank has token word_here word_token part valid_utf8 well_formed due_after lies parse_below unsigned digits_below number_from all_digits value is_digit
 hash = refl
 
 -- a dollar sign

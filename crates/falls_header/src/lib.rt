@@ -1,12 +1,14 @@
 // The contracts of rows, records and look-ups once more, each over its call: wrong programs are edits of these.
+#![tactic(auto)]
+
 pub mod table;
 
 ghost use Rattle.std.specs.Prelude.{◌≡◌};
 ghost use Rattle.rows.specs.Rows.{row_at};
-ghost use Rattle.find.specs.Find.{found, found_in};
+ghost use Rattle.find.specs.Find.{found};
 
 use find::{FoundRow, Kind};
-use rows::{Row, RowNumber};
+use rows::Row;
 
 pub fn row_at(rows: &[u64], i: usize) -> Row
     ensures { result ≡ row_at rows.now i }
@@ -24,16 +26,4 @@ pub fn find_var(input: &[u8], rows: &[u64], count: usize, path: &[u8]) -> FoundR
     ensures { result ≡ found input.now Kind.Var rows.now count path.now }
 {
     find::find_var(input, rows, count, path)
-}
-
-pub fn find_var_in(
-    input: &[u8],
-    rows: &[u64],
-    count: usize,
-    scope: RowNumber,
-    reference: &[u8],
-) -> FoundRow
-    ensures { result ≡ found_in input.now rows.now count scope.0 reference.now }
-{
-    find::find_var_in(input, rows, count, scope, reference)
 }

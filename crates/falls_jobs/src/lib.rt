@@ -1,4 +1,6 @@
 // The contract of a turn of the listing program once more, over its call: wrong programs are edits of it.
+#![tactic(auto)]
+
 ghost use Rattle.std.specs.Prelude.{length};
 ghost use Rattle.list_job.specs.Turns.{Does, turn_of};
 

@@ -1,4 +1,6 @@
 // The contracts of texts and numbers once more, each over its call: wrong programs are edits of these.
+#![tactic(auto)]
+
 ghost use Rattle.std.specs.Prelude.{◌≡◌, ◌^◌};
 ghost use Rattle.text.specs.Bytes.{is_blank};
 ghost use Rattle.text.specs.Texts.{put_answer, put_bytes};

@@ -1,4 +1,6 @@
 // The contracts of listings once more, each over its call: wrong programs are edits of these.
+#![tactic(auto)]
+
 ghost use Rattle.std.specs.Prelude.{◌≡◌};
 ghost use Rattle.change.specs.Rows.{change_at, filled};
 ghost use Rattle.listing.specs.Listing.{list_of, list_on_of, answer_of};

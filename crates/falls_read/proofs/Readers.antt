@@ -7,7 +7,7 @@ use native.Mathlib.Omega.{arith}
 use Rattle.text.specs.Bytes.{bytes, is_blank, has}
 use Rattle.text.specs.Texts.{part}
 use Rattle.utf8.specs.Utf8.{lies, due_after, well_formed, valid_utf8}
-use Rattle.number.specs.Decimal.{is_digit, all_digits, value, number_from, digits_below, parse_below}
+use Rattle.number.specs.Decimal.{is_digit, all_digits, value, number_from, digits_below, unsigned, parse_below}
 use Rattle.command.specs.declared.Command.{Command}
 use Rattle.command.specs.declared.Open.{Open}
 use Rattle.parser_part.specs.Plan.{run, kind_of}
@@ -28,7 +28,7 @@ time n d = Next.Command (Command.Timestamp (record { 0 = n })) d
 
 -- each answer, and from the first one's cursor the second
 answers : (next_from input fresh ≡ time 1 (at 3)) × (next_from input (at 3) ≡ time 2 (at 6))
-unfolding next_from is_good found kind_of run skipped gap word after byte_read is_blank has token word_here word_token part valid_utf8 well_formed due_after lies parse_below digits_below number_from all_digits value is_digit
+unfolding next_from is_good found kind_of run skipped gap word after byte_read is_blank has token word_here word_token part valid_utf8 well_formed due_after lies parse_below unsigned digits_below number_from all_digits value is_digit
 answers = (refl, refl)
 
 pub readers-fall : ReadersFall

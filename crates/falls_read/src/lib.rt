@@ -1,4 +1,6 @@
 // The reader's contracts once more, each over its call: wrong programs are edits of these.
+#![tactic(auto)]
+
 ghost use Rattle.std.specs.Prelude.{◌≡◌};
 ghost use Rattle.parser.specs.Next.{next_from};
 

@@ -1,4 +1,6 @@
 // The contract of a turn once more, over its call: wrong programs are edits of this.
+#![tactic(auto)]
+
 ghost use Rattle.std.specs.Prelude.{length};
 ghost use Rattle.reformat_job.specs.Turns.{Does, turn_of};
 

@@ -1,4 +1,6 @@
 // The contracts of values, ids, units, scopes and refusals once more, each over its call: wrong programs are edits of these.
+#![tactic(auto)]
+
 ghost use Rattle.std.specs.Prelude.{◌≡◌};
 ghost use Rattle.value.specs.Values.{value_of, lower};
 ghost use Rattle.text.specs.Texts.{spelled};

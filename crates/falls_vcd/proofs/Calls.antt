@@ -7,7 +7,7 @@ use lib.ListN.{replicate}
 use Rattle.text.specs.Bytes.{bytes, is_blank, has}
 use Rattle.text.specs.Texts.{part, too_long, put_answer}
 use Rattle.utf8.specs.Utf8.{lies, due_after, well_formed, valid_utf8}
-use Rattle.number.specs.Decimal.{is_digit, all_digits, value, number_from, digits_below, parse_below, digits_of}
+use Rattle.number.specs.Decimal.{is_digit, all_digits, value, number_from, digits_below, unsigned, parse_below, digits_of}
 use Rattle.token.specs.Read.{byte_read, after, gap, word, skipped, word_token, word_here, token}
 use Rattle.parser_part.specs.Plan.{run, kind_of}
 use Rattle.parser.specs.Next.{is_good, found, next_from}
@@ -28,7 +28,7 @@ zeros n = replicate n 0
 
 -- the words of a fresh cursor, of a fresh writer, and of the timestamp 1
 abbrev cursor : List ℕ
-cursor = 0 ∷ 1 ∷ 0 ∷ 0 ∷ 0 ∷ []
+cursor = 0 ∷ 1 ∷ 0 ∷ 0 ∷ []
 
 abbrev writer : List ℕ
 writer = zeros 3
@@ -37,7 +37,7 @@ abbrev time : List ℕ
 time = 9 ∷ 0 ∷ 1 ∷ zeros 6
 
 read : (next_call (bytes "#1 ") cursor (zeros 9)).status ≡ 0
-unfolding next_call cursor_of open_of next_from is_good found kind_of run skipped gap word after byte_read is_blank has token word_here word_token part valid_utf8 well_formed due_after lies parse_below digits_below number_from all_digits value is_digit
+unfolding next_call cursor_of open_of next_from is_good found kind_of run skipped gap word after byte_read is_blank has token word_here word_token part valid_utf8 well_formed due_after lies parse_below unsigned digits_below number_from all_digits value is_digit
 read = refl
 
 counted : (command_call writer [] time (zeros 3) 0).count ≡ 3

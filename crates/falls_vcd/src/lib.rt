@@ -1,4 +1,6 @@
 // The contracts of the library for C once more, each over its call: wrong programs are edits of these.
+#![tactic(auto)]
+
 ghost use Rattle.std.specs.Prelude.{◌≡◌};
 ghost use Rattle.read_calls.specs.Reading.{row_status, row_copied, is_row_call};
 ghost use Rattle.write_calls.specs.Writing.{id_status, id_bytes, id_count};

@@ -1,4 +1,6 @@
 // The writer's contracts once more, each over its call: wrong programs are edits of these.
+#![tactic(auto)]
+
 ghost use Rattle.write.specs.Call.{call, Does};
 
 use command::Command;

@@ -11,7 +11,6 @@ use Rattle.value.specs.declared.ParsedValue.{ParsedValue}
 use Rattle.value.specs.declared.Value.{Value}
 use Rattle.value.proofs.Values.{by_value, by-digit, is-value}
 use Rattle.idcode.specs.Id.{parse_id}
-use Rattle.idcode.specs.declared.IdCode.{IdCode}
 use Rattle.idcode.specs.declared.Parsed.{Parsed}
 use Rattle.idcode.proofs.Pairing.{id_below}
 use Rattle.command.specs.declared.Command.{Command}
@@ -114,7 +113,7 @@ module _ (s : List ℕ) (at e : ℕ) (w : Whole s (at + 1) e) where
       reads-kind s at e Kind.Hash _ (omega (arith, w.some)) w.inside is (λ q. let z : ◌≡◌ {A = ℕ} 0 1 = cc in omega arith)
       (λ d v q. number-hit s d v e (rw q w) _ refl t (rw q p) (λ x. Command.Timestamp (record { 0 = x })))
 
-  pub reads-scalar : (i : IdCode) → is_value (get_or s at 0) ≡ true → parse_id (word (drop (at + 1) s)) ≡ Parsed.Code i → ReadsScalar s at e i
+  pub reads-scalar : (i : ℕ) → is_value (get_or s at 0) ≡ true → parse_id (word (drop (at + 1) s)) ≡ Parsed.Code (record { 0 = i }) → ReadsScalar s at e i
   reads-scalar i is p =
       let k = value-kind (get_or s at 0) is in
       record {
@@ -138,14 +137,14 @@ values-to s at stop long =
     rw n (all-values (drop (at + 1) s))
 
 -- values up to `stop`, and a space
-module _ (s : List ℕ) (stop e : ℕ) (i : IdCode) (space : get_or s stop 0 ≡ 32) (w : Whole s (stop + 1) e)
-    (p : parse_id (word (drop (stop + 1) s)) ≡ Parsed.Code i) where
+module _ (s : List ℕ) (stop e i : ℕ) (space : get_or s stop 0 ≡ 32) (w : Whole s (stop + 1) e)
+    (p : parse_id (word (drop (stop + 1) s)) ≡ Parsed.Code (record { 0 = i })) where
   module _ (d : Cursor) (v : Valid s d) (long : stop ≡ d.place + values_in (rest s d)) (some : d.place < stop) where
     told : Token.Word (record { start = d.place; len = stop - d.place }) (word_read d stop (get_or s stop 0)) ≡ token s d values
     unfolding is_blank
     told = values-here s d stop v long some (omega (arith, w.some, w.inside)) (rw space)
 
-    vector_on : Next.Command (Command.ChangeVector i (record { start = d.place; len = stop - d.place })) (word_read d e (get_or s e 0)) ≡ run (kind_plan Kind.Vector) s d
+    vector_on : Next.Command (Command.ChangeVector (record { 0 = i }) (record { start = d.place; len = stop - d.place })) (word_read d e (get_or s e 0)) ≡ run (kind_plan Kind.Vector) s d
     unfolding word_read
     vector_on =
         token-on v values told (λ t w. an_id (λ x. answer (Command.ChangeVector x t))) refl
@@ -164,7 +163,7 @@ module _ (s : List ℕ) (stop e : ℕ) (i : IdCode) (space : get_or s stop 0 ≡
       }
 
 -- ---- a scalar is read from its first byte on, over no blanks
-pub scalar-first : (s : List ℕ) (c : Cursor) (e : ℕ) (i : IdCode) → ReadsScalar s c.place e i → skipped s c ≡ c
+pub scalar-first : (s : List ℕ) (c : Cursor) (e i : ℕ) → ReadsScalar s c.place e i → skipped s c ≡ c
 scalar-first s c e i r =
     let k = value-kind (get_or s c.place 0) (is-value (get_or s c.place 0) r.value r.means) in
     skip_stop s c (omega (arith, r.change.past, r.change.inside)) (solid-kind (get_or s c.place 0) (Kind.Scalar k.0) k.2 (other-scalar k.0))

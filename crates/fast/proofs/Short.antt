@@ -93,9 +93,9 @@ module _ (s : List ℕ) (at : ℕ) where
 
   -- the id i has one byte
   pub scalar-one : (i : ℕ) → at + 2 < length s → is_value (get_or s at 0) ≡ true → get_or s (at + 1) 0 ≡ i + 33 → i ≤ 93
-      → is_blank (get_or s (at + 2) 0) ≡ true → ReadsScalar s at (at + 2) (record { 0 = i })
+      → is_blank (get_or s (at + 2) 0) ≡ true → ReadsScalar s at (at + 2) i
   scalar-one i h is e u b =
       let there : at + 1 + 1 ≡ at + 2 = omega arith in
       let id : get_or s (at + 1) 0 - 33 ≡ i = omega arith in
       let w = rw (there, id) at (id-one s (at + 1) (omega arith) (omega arith) (omega arith) (rw there b)) in
-      reads-scalar s at (at + 2) w.0 (record { 0 = i }) is w.1
+      reads-scalar s at (at + 2) w.0 i is w.1

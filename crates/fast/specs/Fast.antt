@@ -2,7 +2,6 @@
 use Rattle.std.specs.Prelude.{◌≡◌, ℕ, ◌+◌, ◌-◌, ◌^◌, ◌<◌, ◌≤◌, true, List, length, slice_index}
 use Rattle.text.specs.Texts.{part}
 use Rattle.text.specs.declared.Text.{Text}
-use Rattle.idcode.specs.declared.IdCode.{IdCode}
 use Rattle.command.specs.declared.Command.{Command}
 use Rattle.parser.specs.Next.{next_from}
 use Rattle.parser_part.specs.declared.Next.{Next}
@@ -21,26 +20,26 @@ pub record Reads (s : List ℕ) (at e : ℕ) (k : Command) : Type 0 where
   pub reads : (c : Cursor) → Valid s c → c.place ≡ at → next_from s c ≡ Next.Command k (word_read c e (slice_index s e))
 
 -- a change of a scalar, whose value the first byte means, of an id that has a text
-pub record ReadsScalar (s : List ℕ) (at e : ℕ) (i : IdCode) : Type 0 where
+pub record ReadsScalar (s : List ℕ) (at e i : ℕ) : Type 0 where
   pub value : Value
   pub means : value_of (slice_index s at) ≡ ParsedValue.Is value
-  pub id : i.0 < 2 ^ 64 - 1
-  pub change : Reads s at e (Command.ChangeScalar i value)
+  pub id : i < 2 ^ 64 - 1
+  pub change : Reads s at e (Command.ChangeScalar (record { 0 = i }) value)
 
 -- a vector's values, from after the first byte up to `stop`
 abbrev pub values_at : ℕ → ℕ → Text
 values_at at stop = record { start = at + 1; len = stop - (at + 1) }
 
 -- a change of a vector
-pub record ReadsVector (s : List ℕ) (at stop e : ℕ) (i : IdCode) : Type 0 where
+pub record ReadsVector (s : List ℕ) (at stop e i : ℕ) : Type 0 where
   pub some : at + 1 < stop
   pub before : stop < e
   pub values : are_values (part s (values_at at stop)) ≡ true
-  pub id : i.0 < 2 ^ 64 - 1
-  pub change : Reads s at e (Command.ChangeVector i (values_at at stop))
+  pub id : i < 2 ^ 64 - 1
+  pub change : Reads s at e (Command.ChangeVector (record { 0 = i }) (values_at at stop))
 
 abbrev pub Hits : List ℕ → ℕ → Fast → Type 0
-Hits s at (Fast.Time t e) = Reads s at e (Command.Timestamp t)
+Hits s at (Fast.Time t e) = Reads s at e (Command.Timestamp (record { 0 = t }))
 Hits s at (Fast.Scalar i e) = ReadsScalar s at e i
 Hits s at (Fast.Vector i stop e) = ReadsVector s at stop e i
 Hits s at Fast.Miss = Unit {0}

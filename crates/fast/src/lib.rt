@@ -1,5 +1,7 @@
 // The fast path of loops that read many commands: a timestamp, or a change of a scalar or of a vector, in its usual form at a place. A
 // hit is held to what reading from there gives. Callers hand over valid cursors and leave a miss to `parser::next_command`.
+#![tactic(auto)]
+
 ghost use Rattle.std.specs.Prelude.{◌≡◌, ◌+◌, ◌*◌, ◌<◌, ◌≤◌, true, length, take, drop, slice_index};
 ghost use Rattle.text.specs.Bytes.{is_blank};
 ghost use Rattle.number.specs.Decimal.{value};
@@ -9,18 +11,16 @@ ghost use Rattle.parser_part.specs.declared.Kind.{Kind};
 ghost use Rattle.fast.specs.Fast.{Hits, Short, EightDigits};
 ghost use Rattle.text.specs.Texts.{limit};
 
-use command::Time;
-use idcode::IdCode;
 use parser_part::word;
-use parser_part::word::{FastIdCode, FastWord};
+use parser_part::word::FastWord;
 
-// A hit, with the place of the blank that ends the command: a time; a change of a scalar with its id; or a change of a vector with its id
-// and the end of its values, which begin after the first byte.
-#[derive(Drop)]
+// A hit, with the place of the blank that ends the command: a time; a change of a scalar with the id's code; or a change of a vector with
+// the id's code and the end of its values, which begin after the first byte.
+#[derive(Clone, Copy)]
 pub enum Fast {
-    Time(Time, usize),
-    Scalar(IdCode, usize),
-    Vector(IdCode, usize, usize),
+    Time(u64, usize),
+    Scalar(u64, usize),
+    Vector(u64, usize, usize),
     Miss,
 }
 
@@ -31,7 +31,7 @@ pub fn parse_timestamp(input: &[u8], at: usize) -> Fast
     ensures { Hits input.now at result × Short at result }
 {
     match word::fast_number(input, at + 1) {
-        FastWord::Hit(t, end) => Fast::Time(Time(t), end),
+        FastWord::Hit(t, end) => Fast::Time(t, end),
         FastWord::Miss => Fast::Miss,
     }
 }
@@ -43,8 +43,8 @@ pub fn parse_scalar(input: &[u8], at: usize) -> Fast
     ensures { Hits input.now at result }
 {
     match word::fast_id(input, at + 1) {
-        FastIdCode::Hit(i, end) => Fast::Scalar(i, end),
-        FastIdCode::Miss => Fast::Miss,
+        FastWord::Hit(i, end) => Fast::Scalar(i, end),
+        FastWord::Miss => Fast::Miss,
     }
 }
 
@@ -66,8 +66,8 @@ pub fn parse_vector(input: &[u8], at: usize) -> Fast
         return Fast::Miss;
     }
     match word::fast_id(input, stop + 1) {
-        FastIdCode::Hit(i, end) => Fast::Vector(i, stop, end),
-        FastIdCode::Miss => Fast::Miss,
+        FastWord::Hit(i, end) => Fast::Vector(i, stop, end),
+        FastWord::Miss => Fast::Miss,
     }
 }
 
@@ -107,7 +107,7 @@ fn short_scalar(input: &[u8], at: usize) -> Fast
         return Fast::Miss;
     }
     if ends(input[at + 2]) {
-        return Fast::Scalar(IdCode(i), at + 2);
+        return Fast::Scalar(i, at + 2);
     }
     Fast::Miss
 }
@@ -120,7 +120,7 @@ fn short_time(input: &[u8], at: usize) -> Fast
     ensures { Hits input.now at result × Short at result }
 {
     if eight(input, at + 1) && ends(input[at + 9]) {
-        return Fast::Time(Time(eight_value(input, at + 1)), at + 9);
+        return Fast::Time(eight_value(input, at + 1), at + 9);
     }
     parse_timestamp(input, at)
 }

@@ -1,14 +1,13 @@
 -- Reading a variable's definition part by part: spaces before a part are skipped on the same line, a word and a space after it leave
 -- the rest of the plan, the last word ends it; and the parts of a definition by these. Assumes nothing.
-use Rattle.std.proofs.Common.{◌≡◌, ℕ, zero, suc, ◌+◌, ◌-◌, ◌^◌, ◌<◌, ◌≤◌, true, eqb, List, [], ◌∷◌, length, get_or, drop, sym, refl, ap, ◌∙◌, add-zero, arith}
+use Rattle.std.proofs.Common.{◌≡◌, ℕ, zero, suc, ◌+◌, ◌-◌, ◌^◌, ◌<◌, ◌≤◌, true, ltb, List, [], ◌∷◌, length, get_or, drop, sym, refl, ap, ◌∙◌, add-zero, arith, lt-ltb}
 use Rattle.text.specs.Bytes.{equal, starts, has, is_blank}
 use Rattle.command.specs.Words.{end_mark}
 use Rattle.text.specs.Names.{lookup}
 use Rattle.text.specs.declared.Text.{Text}
 use Rattle.text.proofs.Lists.{by-test}
-use Rattle.number.specs.Decimal.{value, number_from, digits_below, parse_below}
+use Rattle.number.specs.Decimal.{all_digits, value, number_from, digits_below, unsigned, parse_below}
 use Rattle.number.specs.declared.Number.{Number}
-use Rattle.number.proofs.Laws.{from-value, from-accepted}
 use Rattle.idcode.specs.Id.{parse_id}
 use Rattle.idcode.specs.declared.IdCode.{IdCode}
 use Rattle.idcode.specs.declared.Parsed.{Parsed}
@@ -169,10 +168,18 @@ none h = record { past = omega arith; inside = h; spaces = λ i l u. absurd (ome
 
 -- ---- a number below one limit, and below another that it keeps
 from_less : (a b v x : ℕ) (w : List ℕ) → number_from b v w ≡ Number.Is x → x < a → number_from a v w ≡ Number.Is x
+unfolding number_from
 from_less a b v x w e h =
-    let k = from-accepted b v x w e in
-    let q : value v w ≡ x = k.1 in
-    from-value a v w k.0 (omega arith) ∙ ap Number.Is q
+    by-test (all_digits w)
+    (λ d.
+    by-test (ltb (value v w) b)
+    (λ t.
+    let y = rw (d, t) at e in
+    let q : value v w ≡ x = cc in
+    let u : ltb (value v w) a ≡ true = lt-ltb (value v w) a (omega arith) in
+    rw (d, u, q))
+    (λ t. let y = rw (d, t) at e in let z : ◌≡◌ {A = ℕ} 0 1 = cc in absurd (omega arith)))
+    (λ d. let y = rw d at e in let z : ◌≡◌ {A = ℕ} 0 1 = cc in absurd (omega arith))
 
 digits-less : (a b x : ℕ) (w : List ℕ) → digits_below b w ≡ Number.Is x → x < a → digits_below a w ≡ Number.Is x
 unfolding digits_below
@@ -181,9 +188,7 @@ digits-less a b x (d ∷ w) e h = from_less a b 0 x (d ∷ w) e h
 
 below_less : (a b x : ℕ) (w : List ℕ) → parse_below b w ≡ Number.Is x → x < a → parse_below a w ≡ Number.Is x
 unfolding parse_below
-below_less a b x [] e h = let z : ◌≡◌ {A = ℕ} 0 1 = cc in absurd (omega arith)
-below_less a b x (d ∷ w) e h =
-    by-test (eqb d 43) (λ t. rw t (digits-less a b x w (rw t at e) h)) (λ t. rw t (digits-less a b x (d ∷ w) (rw t at e) h))
+below_less a b x w e h = digits-less a b x (unsigned w) e h
 
 -- ---- the parts of a definition
 module _ {s : List ℕ} {at q e : ℕ} (g : Gap s at q) (w : Whole s q e) (space : get_or s e 0 ≡ 32) (k : VarType) where

@@ -14,7 +14,7 @@ use Rattle.utf8.proofs.WellFormed.{ascii-first, empty-valid}
 use Rattle.number.specs.Decimal.{is_digit, all_digits, value, number_from, digits_below, parse_below, plain}
 use Rattle.number.specs.declared.Number.{Number as NumberRead}
 use Rattle.number.specs.declared.Signed.{Signed}
-use Rattle.number.proofs.Laws.{digit, digit-range, from-value, no_sign, sign-no}
+use Rattle.number.proofs.Laws.{digit, digit-range, no_sign, sign-no}
 use Rattle.number.proofs.Signs.{signed-plain}
 use Rattle.scope.specs.Index.{padded, up_to_byte, parse_inside, parse_index}
 use Rattle.scope.specs.declared.ParsedIndex.{ParsedIndex}
@@ -123,9 +123,9 @@ all-kept (b ∷ w) e =
     rw (none_first (b ∷ w) e, ne_eqb 0 (suc (length w)) (λ z. omega arith), k)
 
 digits-mean : (limit : ℕ) (w : List ℕ) → 0 < length w → all_digits w ≡ true → value 0 w < limit → digits_below limit w ≡ NumberRead.Is (value 0 w)
-unfolding digits_below
+unfolding digits_below number_from
 digits-mean limit [] some all h = absurd (omega arith)
-digits-mean limit (b ∷ w) some all h = from-value limit 0 (b ∷ w) all h
+digits-mean limit (b ∷ w) some all h = rw (all, lt-ltb (value 0 (b ∷ w)) limit h)
 
 -- a run of digits within the limit of an index
 record Run (w : List ℕ) : Type 0 where
@@ -135,7 +135,7 @@ record Run (w : List ℕ) : Type 0 where
 
 run-read : (limit : ℕ) (w : List ℕ) → Run w → 10 ^ 9 ≤ limit → parse_below limit w ≡ NumberRead.Is (value 0 w)
 run-read limit w r h =
-    sym (sign-no limit w (λ q. omega (arith, r.some)) (no_sign 43 w (omega arith) r.some r.all))
+    sym (sign-no limit w (no_sign 43 w (omega arith) r.some r.all))
     ∙ digits-mean limit w r.some r.all (omega (arith, r.small))
 
 number_read : (w : List ℕ) → Run w → padded w ≡ Signed.Is (pos (value 0 w))

@@ -1,5 +1,7 @@
 // The fast path of loops that read headers: a variable's definition in its usual form, all on one line, with spaces between its parts,
 // in printable ASCII. A miss is left to `parser::next_command`.
+#![tactic(auto)]
+
 ghost use Rattle.std.specs.Prelude.{◌≡◌, ◌+◌, ◌*◌, ◌<◌, ◌≤◌, true, length, if◌then◌else◌};
 ghost use Rattle.scope.specs.declared.ParsedVarType.{ParsedVarType};
 ghost use Rattle.scope.specs.declared.VarType.{VarType};
@@ -9,7 +11,7 @@ ghost use Rattle.text.specs.Texts.{limit};
 
 use idcode::IdCode;
 use parser_part::word;
-use parser_part::word::{FastIdCode, FastWord};
+use parser_part::word::FastWord;
 use scope::{ParsedVarType, ReferenceIndex, Var, VarType};
 use text::Text;
 
@@ -25,21 +27,21 @@ const REG: u32 = scope::VAR_TYPES[scope::REG].name[0] as u32
     + 16777216 * (b' ' as u32);
 
 // The variable that stands there, with the place of the blank that ends its definition.
-#[derive(Drop)]
+#[derive(Clone, Copy)]
 pub enum FastVar {
     Hit(Var, usize),
     Miss,
 }
 
 // A type, and the place of the space that ends it.
-#[derive(Drop)]
+#[derive(Clone, Copy)]
 enum FastType {
     Hit(VarType, usize),
     Miss,
 }
 
 // An index, and the place of the space that ends it.
-#[derive(Drop)]
+#[derive(Clone, Copy)]
 enum FastIndex {
     Hit(ReferenceIndex, usize),
     Miss,
@@ -102,13 +104,13 @@ fn coded(input: &[u8], at: usize, k: VarType, n: u32) -> FastVar
     ensures { Goes input.now at (var_id k n) result }
 {
     match word::fast_id(input, spaces_end(input, at)) {
-        FastIdCode::Hit(i, end) => {
+        FastWord::Hit(i, end) => {
             if input[end] != b' ' {
                 return FastVar::Miss;
             }
-            named(input, end + 1, k, n, i)
+            named(input, end + 1, k, n, IdCode(i))
         }
-        FastIdCode::Miss => FastVar::Miss,
+        FastWord::Miss => FastVar::Miss,
     }
 }
 

@@ -1,13 +1,11 @@
 -- Looking up a row by a path of names, as the crate's find_scope and find_var: each name but the last is the first scope of that name
--- among the items of the one before; the last is the first scope or variable of that name among the items there. Or in one scope, as
--- Scope::find_var.
-use Rattle.std.specs.Prelude.{ℕ, zero, suc, ◌+◌, Bool, false, cond, ◌&&◌, List, [], ◌∷◌, eqb, ltb, length, drop}
+-- among the items of the one before; the last is the first scope or variable of that name among the items there.
+use Rattle.std.specs.Prelude.{ℕ, zero, suc, ◌+◌, Bool, false, cond, ◌&&◌, ◌||◌, List, [], ◌∷◌, eqb, ltb, length, drop}
 use Rattle.scope.specs.Index.{up_to_byte}
 use Rattle.text.specs.Bytes.{equal}
-use Rattle.text.specs.Texts.{part}
+use Rattle.text.specs.Texts.{part, too_long}
 use Rattle.command.specs.declared.Refusal.{Refusal}
-use Rattle.tree.specs.Chain.{is_scope_at}
-use Rattle.tree.specs.Place.{rows_misplaced}
+use Rattle.tree.specs.Place.{some_outside}
 use Rattle.rows.specs.Rows.{parent_word, rows_of, top}
 use Rattle.find.specs.declared.FoundRow.{FoundRow}
 use Rattle.find.specs.declared.Kind.{Kind}
@@ -59,10 +57,4 @@ sought s kind table n path = find_from s kind (rows_of table n) top (names path)
 -- 25 first: the input is over the limit, or one of these rows has a text outside it
 unfoldable pub found : List ℕ → Kind → List ℕ → ℕ → List ℕ → FoundRow
 found s kind table n path =
-    cond (rows_misplaced s (rows_of table n)) (FoundRow.Refused Refusal.BadPlace) (sought s kind table n path)
-
--- the first variable of a reference among the items of the scope p, not deeper; none, if row p is no scope
-unfoldable pub found_in : List ℕ → List ℕ → ℕ → ℕ → List ℕ → FoundRow
-found_in s table n p name =
-    cond (rows_misplaced s (rows_of table n)) (FoundRow.Refused Refusal.BadPlace)
-    (cond (is_scope_at table n p) (first_named s Kind.Var p name 0 (rows_of table n)) FoundRow.None)
+    cond (too_long s || some_outside s (rows_of table n)) (FoundRow.Refused Refusal.BadPlace) (sought s kind table n path)

@@ -1,15 +1,16 @@
-// Looking up a row by a path of names, as the crate's `Header::find_scope` and `Header::find_var`, or in one scope, as its
-// `Scope::find_var`.
+// Looking up a row by a path of names, as the crate's `Header::find_scope` and `Header::find_var`.
+#![tactic(auto)]
+
 ghost use Rattle.std.specs.Prelude.{◌≡◌, length};
 ghost use Rattle.scope.specs.Index.{up_to_byte};
 ghost use Rattle.rows.specs.Rows.{rows_of};
-ghost use Rattle.find.specs.Find.{found, found_in, sought, is_named, first_named};
+ghost use Rattle.find.specs.Find.{found, sought, is_named, first_named};
 
 use command::Refusal;
 use rows::{Row, RowNumber};
 
 // The row; none; or 25, where a text of the rows lies outside the input.
-#[derive(Drop)]
+#[derive(Clone, Copy)]
 pub enum FoundRow {
     At(RowNumber),
     None,
@@ -17,7 +18,7 @@ pub enum FoundRow {
 }
 
 // What is looked for.
-#[derive(Drop)]
+#[derive(Clone, Copy)]
 pub enum Kind {
     Scope,
     Var,
@@ -37,30 +38,14 @@ pub fn find_var(input: &[u8], rows: &[u64], count: usize, path: &[u8]) -> FoundR
     find(input, Kind::Var, rows, count, path)
 }
 
-// The variable of this reference among the items of one scope, not deeper. A row that is no scope has none.
-pub fn find_var_in(
-    input: &[u8],
-    rows: &[u64],
-    count: usize,
-    scope: RowNumber,
-    reference: &[u8],
-) -> FoundRow
-    ensures { result ≡ found_in input.now rows.now count scope.0 reference.now }
-{
-    if tree::place::misplaced(input, rows, count) {
-        return FoundRow::Refused(Refusal::BadPlace);
-    }
-    if !tree::is_scope(rows, count, scope) {
-        return FoundRow::None;
-    }
-    first_named(input, Kind::Var, scope.0, reference, rows, count)
-}
-
 // Texts are compared only where all of them lie in the input.
 fn find(input: &[u8], kind: Kind, rows: &[u64], count: usize, path: &[u8]) -> FoundRow
     ensures { result ≡ found input.now kind rows.now count path.now }
 {
-    if tree::place::misplaced(input, rows, count) {
+    if text::LIMIT < input.len() {
+        return FoundRow::Refused(Refusal::BadPlace);
+    }
+    if tree::place::some_outside(input, rows, count) {
         return FoundRow::Refused(Refusal::BadPlace);
     }
     seek(input, kind, rows, count, path)

@@ -1,6 +1,7 @@
 // The look-ups by path, the examples of the crate's documentation among them: a dump on standard input, a line `--`, then paths, one a
-// line; for each the scope and the variable that it names, and the variable that its last name is in the scope of the others. The
-// stored output is the crate's (oracle/src/bin/finds.rs).
+// line; for each the scope and the variable that it names. The stored output is the crate's (oracle/src/bin/finds.rs).
+#![tactic(auto)]
+
 use find::FoundRow;
 use replay::{put, put_byte, put_number, put_word};
 use rows::Row;
@@ -48,20 +49,6 @@ fn answer_path(
     out: &mut [u8],
     at: usize,
 ) -> usize {
-    let o = answer_names(input, rows, count, path, out, at);
-    let o = put(out, o, b"in");
-    put_found(input, rows, find_in(input, rows, count, path), out, o)
-}
-
-// The scope and the variable at a path.
-fn answer_names(
-    input: &[u8],
-    rows: &[u64],
-    count: usize,
-    path: &[u8],
-    out: &mut [u8],
-    at: usize,
-) -> usize {
     let o = put(out, at, b"scope");
     let o = put_found(
         input,
@@ -78,39 +65,6 @@ fn answer_names(
         out,
         o,
     )
-}
-
-// The last name of a path, in the scope at the names before it.
-fn find_in(input: &[u8], rows: &[u64], count: usize, path: &[u8]) -> FoundRow {
-    let at = last_name(path);
-    if at == 0 {
-        return FoundRow::None;
-    }
-    let parent = Text {
-        start: 0,
-        len: at - 1,
-    };
-    let name = Text {
-        start: at,
-        len: path.len(),
-    };
-    match find::find_scope(input, rows, count, text::part(path, parent)) {
-        FoundRow::At(n) => find::find_var_in(input, rows, count, n, text::part(path, name)),
-        FoundRow::None => FoundRow::None,
-        FoundRow::Refused(e) => FoundRow::Refused(e),
-    }
-}
-
-// The place after the last space; 0 where there is none.
-fn last_name(path: &[u8]) -> usize {
-    let mut i = path.len();
-    while 0 < i {
-        if path[i - 1] == b' ' {
-            return i;
-        }
-        i -= 1;
-    }
-    i
 }
 
 fn put_found(input: &[u8], rows: &[u64], found: FoundRow, out: &mut [u8], at: usize) -> usize {

@@ -1,18 +1,17 @@
 -- The arms `_` of the matches on a command: they know the numbers of the variants that are left.
 use Prim.Native.Nat.{ℕ}
 use mathlib.Core.Path.{◌≡◌, refl}
-use mathlib.Core.Bool.{Bool}
 use mathlib.Core.List.{List, [], ◌∷◌}
 use types.Run.{OneOf, miss}
 use denote.Enum.Declared.{tag_of}
 use Rattle.command.specs.contracts.Command.{the_type}
 use Rattle.command.specs.declared.Command.{Command}
+use Rattle.command.specs.declared.Refusal.{Refusal}
 use Rattle.token.specs.declared.Cursor.{Cursor}
 use Rattle.header.specs.Level.{duty, item_of, table_of, close_of, misplaced, keep_of}
 use Rattle.header.specs.declared.Header.{Header}
 use Rattle.header.specs.declared.Item.{Item}
 use Rattle.header.specs.declared.Part.{Part}
-use Rattle.header.specs.declared.WalkEnd.{WalkEnd}
 use Rattle.rows.specs.declared.Parent.{Parent}
 
 abbrev rowless : List ℕ
@@ -40,7 +39,7 @@ module _ (cap levels n : ℕ) (p : Parent) (d : Cursor) (m : List ℕ) where
 abbrev unclosed : List ℕ
 unclosed = 0 ∷ 1 ∷ 2 ∷ 3 ∷ 4 ∷ 6 ∷ 7 ∷ 8 ∷ 9 ∷ 10 ∷ 11 ∷ 12 ∷ 13 ∷ 14 ∷ []
 
-pub close-rest : (d : Cursor) (n : ℕ) (k : Command) → OneOf unclosed (tag_of the_type k) → Part.Ended (WalkEnd.Strange k) d n ≡ close_of k d n
+pub close-rest : (d : Cursor) (n : ℕ) (k : Command) → OneOf unclosed (tag_of the_type k) → Part.Refused Refusal.UnexpectedHeaderCommand d.line d n ≡ close_of k d n
 unfolding close_of duty
 close-rest d n Command.Upscope o = absurd (miss unclosed 5 tt o)
 close-rest d n (Command.Comment t) o = refl
@@ -61,20 +60,20 @@ close-rest d n (Command.End k) o = refl
 abbrev unkept : List ℕ
 unkept = 0 ∷ 4 ∷ 5 ∷ 6 ∷ 8 ∷ 9 ∷ 10 ∷ 11 ∷ 12 ∷ 13 ∷ 14 ∷ []
 
-pub keep-rest : (asks : Bool) (h : Header) (k : Command) → OneOf unkept (tag_of the_type k) → misplaced k ≡ keep_of asks h k
+pub keep-rest : (h : Header) (line : ℕ) (k : Command) → OneOf unkept (tag_of the_type k) → misplaced line ≡ keep_of h k line
 unfolding keep_of duty
-keep-rest asks h (Command.Date t) o = absurd (miss unkept 1 tt o)
-keep-rest asks h (Command.Version t) o = absurd (miss unkept 2 tt o)
-keep-rest asks h (Command.Timescale q u) o = absurd (miss unkept 3 tt o)
-keep-rest asks h Command.Enddefinitions o = absurd (miss unkept 7 tt o)
-keep-rest asks h (Command.Comment t) o = refl
-keep-rest asks h (Command.ScopeDef k t) o = refl
-keep-rest asks h (Command.VarDef k w i t x) o = refl
-keep-rest asks h Command.Upscope o = refl
-keep-rest asks h (Command.Timestamp t) o = refl
-keep-rest asks h (Command.ChangeScalar i v) o = refl
-keep-rest asks h (Command.ChangeVector i v) o = refl
-keep-rest asks h (Command.ChangeReal i v) o = refl
-keep-rest asks h (Command.ChangeString i v) o = refl
-keep-rest asks h (Command.Begin k) o = refl
-keep-rest asks h (Command.End k) o = refl
+keep-rest h line (Command.Date t) o = absurd (miss unkept 1 tt o)
+keep-rest h line (Command.Version t) o = absurd (miss unkept 2 tt o)
+keep-rest h line (Command.Timescale q u) o = absurd (miss unkept 3 tt o)
+keep-rest h line Command.Enddefinitions o = absurd (miss unkept 7 tt o)
+keep-rest h line (Command.Comment t) o = refl
+keep-rest h line (Command.ScopeDef k t) o = refl
+keep-rest h line (Command.VarDef k w i t x) o = refl
+keep-rest h line Command.Upscope o = refl
+keep-rest h line (Command.Timestamp t) o = refl
+keep-rest h line (Command.ChangeScalar i v) o = refl
+keep-rest h line (Command.ChangeVector i v) o = refl
+keep-rest h line (Command.ChangeReal i v) o = refl
+keep-rest h line (Command.ChangeString i v) o = refl
+keep-rest h line (Command.Begin k) o = refl
+keep-rest h line (Command.End k) o = refl

@@ -166,28 +166,14 @@ rows-good cap (command k d more) n st gs h w =
 rows-good cap (stop e l d) n st gs h w = none-good cap n gs w.made
 rows-good cap (finish d) n st gs h w = none-good cap n gs w.made
 
--- the rows of any commands, and that there are no more than there is room for
-module _ (cs : Commands) (table : List ℕ) where
-  abbrev cap : ℕ
-  cap = min 4096 (length table / 10)
-
-  abbrev out : Outcome
-  out = read_rows cap cs [] 0 nothing
-
-  all : GoodRows cap 0 [] out.rows
-  all = rows-good cap cs 0 [] [] nothing (start cap)
-
-  pub read-room : length out.rows ≤ cap
-  read-room = omega (arith, all.0)
-
-  pub read-good : is_good_table out.rows ≡ true
-  unfolding is_good_table
-  read-good = rw (le-leb (length out.rows) 4096 (omega (arith, read-room)), all.1)
-
--- those of a header
+-- the rows of a header, and that there are no more than there is room for
 module _ (s : List ℕ) (c : Cursor) (table : List ℕ) where
+  all : GoodRows (min 4096 (length table / 10)) 0 [] (header_of s c table).rows
+  all = rows-good (min 4096 (length table / 10)) (commands s c) 0 [] [] nothing (start (min 4096 (length table / 10)))
+
   pub header-room : length (header_of s c table).rows ≤ min 4096 (length table / 10)
-  header-room = read-room (commands s c) table
+  header-room = omega (arith, all.0)
 
   pub header-good : is_good_table (header_of s c table).rows ≡ true
-  header-good = read-good (commands s c) table
+  unfolding is_good_table
+  header-good = rw (le-leb (length (header_of s c table).rows) 4096 (omega (arith, header-room)), all.1)

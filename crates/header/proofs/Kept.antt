@@ -46,7 +46,7 @@ abbrev Row-ok : List ℕ → Row → Type 0
 Row-ok s r = TextIn s r × Fits r
 
 -- ---- the commands of an input: their texts lie in it, their numbers are in range
-abbrev pub Told : List ℕ → Commands → Type 0
+abbrev Told : List ℕ → Commands → Type 0
 Told s (command k d more) = Inside s k × Ranged k × Told s more
 Told s (stop e l d) = Unit {0}
 Told s (finish d) = Unit {0}
@@ -61,7 +61,7 @@ told-on (suc fuel) s c = go (next_from s c) refl (told-on fuel s)
     go (Next.Refused r l d) e more = tt
     go (Next.Done d) e more = tt
 
-pub told : (s : List ℕ) (c : Cursor) → Told s (commands s c)
+told : (s : List ℕ) (c : Cursor) → Told s (commands s c)
 unfolding commands
 told s c = told-on _ s c
 
@@ -148,37 +148,23 @@ rows_in s cap l (command k d more) t n st gs h w i =
 rows_in s cap l (stop e q d) t n st gs h w i = (tt, i)
 rows_in s cap l (finish d) t n st gs h w i = (tt, i)
 
--- of any commands whose texts lie in the input: every text of a row, and every text that is kept, lies there too; and the numbers of the
--- rows fit the words, so that the filled table gives the rows back
-module _ (s : List ℕ) (cs : Commands) (t : Told s cs) (table : List ℕ) where
+module _ (s : List ℕ) (c : Cursor) (table : List ℕ) where
   abbrev out : Outcome
-  out = read_rows (min 4096 (length table / 10)) cs [] 0 nothing
+  out = header_of s c table
 
   all : OutcomeIn s out
-  all = let cap = min 4096 (length table / 10) in rows_in s cap (omega arith) cs t 0 [] [] nothing (start cap) (tt, tt)
+  all = let cap = min 4096 (length table / 10) in rows_in s cap (omega arith) (commands s c) (told s c) 0 [] [] nothing (start cap) (tt, tt)
 
-  pub read-texts : Each (TextIn s) out.rows
-  read-texts = each_map (Row-ok s) (TextIn s) (λ r x. x.0) out.rows all.0
+  -- every text of a row, and every text that is kept, lies in the input
+  pub header-texts : Each (TextIn s) out.rows
+  header-texts = each_map (Row-ok s) (TextIn s) (λ r x. x.0) out.rows all.0
 
-  pub read_kept : HeaderIn s out.kept
-  read_kept = all.1
+  pub header-kept : HeaderIn s out.kept
+  header-kept = all.1
 
-  pub read_fits : Each Fits out.rows
-  read_fits = each_map (Row-ok s) Fits (λ r x. x.1) out.rows all.0
+  -- the numbers of the rows fit the words, so that the filled table gives the rows back
+  pub header-fits : Each Fits out.rows
+  header-fits = each_map (Row-ok s) Fits (λ r x. x.1) out.rows all.0
 
-  pub read_back : rows_of (filled out.rows table) (length out.rows) ≡ out.rows
-  read_back = filled-back out.rows table read_fits
-
--- of a header
-module _ (s : List ℕ) (c : Cursor) (table : List ℕ) where
-  pub header-texts : Each (TextIn s) (header_of s c table).rows
-  header-texts = read-texts s (commands s c) (told s c) table
-
-  pub header-kept : HeaderIn s (header_of s c table).kept
-  header-kept = read_kept s (commands s c) (told s c) table
-
-  pub header-fits : Each Fits (header_of s c table).rows
-  header-fits = read_fits s (commands s c) (told s c) table
-
-  pub header-back : rows_of (filled (header_of s c table).rows table) (length (header_of s c table).rows) ≡ (header_of s c table).rows
-  header-back = read_back s (commands s c) (told s c) table
+  pub header-back : rows_of (filled out.rows table) (length out.rows) ≡ out.rows
+  header-back = filled-back out.rows table header-fits

@@ -2,7 +2,7 @@
 -- private functions promise of an item, of the end of a scope, of some variables, of a scope's items and of what is kept at top.
 use Prim.Native.Nat.{ℕ, suc, ◌+◌, ◌-◌, ◌≤◌, ◌<◌}
 use mathlib.Core.Path.{◌≡◌, refl, sym, ap, ◌∙◌}
-use mathlib.Core.Bool.{Bool, true, false, cond, false≢true}
+use mathlib.Core.Bool.{true, false, cond, false≢true}
 use mathlib.Core.List.{List, [], ◌∷◌}
 use native.Mathlib.Omega.{arith}
 use native.Mathlib.Nat.{add-zero}
@@ -19,104 +19,102 @@ use Rattle.parser.proofs.All.{commands-step, less-left}
 use Rattle.scope.specs.declared.Var.{Var}
 use Rattle.text.proofs.Lists.{by-test}
 use Rattle.token.specs.declared.Cursor.{Cursor}
-use Rattle.header.specs.Header.{Step, on, off, whole, inner, added, at_top, closed, move}
-use Rattle.header.specs.Level.{Duty, scope, leaf, keeps, scales, closes, ends, strange, duty, has_row, item_by, item_of, table_by, table_of, close_by, close_of, keep_by, keep_of, final, fill, after, rest, Here, Took, Passes, Follows}
-use Rattle.header.specs.Walk.{takes, walk_move, Walked, ending, end_by, follow, walked}
+use Rattle.header.specs.Header.{Step, on, off, whole, inner, added, at_top, closed, move, Outcome, ending, follow, read_rows}
+use Rattle.header.specs.Level.{Duty, scope, leaf, keeps, closes, ends, strange, duty, has_row, item_by, item_of, table_by, table_of, close_by, close_of, keep_by, keep_of, final, fill, after, rest, Here, Took, Passes, Follows}
 use Rattle.rows.specs.Rows.{put, row_words}
+use Rattle.header.specs.declared.Ended.{Ended}
 use Rattle.header.specs.declared.Header.{Header}
 use Rattle.header.specs.declared.Item.{Item}
 use Rattle.header.specs.declared.Move.{Move}
 use Rattle.header.specs.declared.Part.{Part}
-use Rattle.header.specs.declared.WalkEnd.{WalkEnd}
 use Rattle.rows.specs.declared.Parent.{Parent}
 use Rattle.rows.specs.declared.Row.{Row}
 
 -- ---- the moves, by what a command is for
-abbrev move_by : Bool → ℕ → Duty → List ℕ → ℕ → Header → Step
-move_by asks cap (scope r) st n h = cond (ltb (length st) 64) (added cap n (n ∷ st) (r (inner st)) h) (off Refusal.TooDeep)
-move_by asks cap (leaf r) st n h = added cap n st (r (inner st)) h
-move_by asks cap (keeps f) st n h = at_top st (on st [] (f h))
-move_by asks cap (scales q f) st n h = cond (takes asks q) (at_top st (on st [] (f h))) (off Refusal.UnexpectedHeaderCommand)
-move_by asks cap closes st n h = closed st h
-move_by asks cap ends st n h = at_top st whole
-move_by asks cap strange st n h = off Refusal.UnexpectedHeaderCommand
+abbrev move_by : ℕ → Duty → List ℕ → ℕ → Header → Step
+move_by cap (scope r) st n h = cond (ltb (length st) 64) (added cap n (n ∷ st) (r (inner st)) h) (off Refusal.TooDeep)
+move_by cap (leaf r) st n h = added cap n st (r (inner st)) h
+move_by cap (keeps f) st n h = at_top st (on st [] (f h))
+move_by cap closes st n h = closed st h
+move_by cap ends st n h = at_top st whole
+move_by cap strange st n h = off Refusal.UnexpectedHeaderCommand
 
-moves : (asks : Bool) (cap : ℕ) (k : Command) (st : List ℕ) (n : ℕ) (h : Header) → walk_move asks cap k st n h ≡ move_by asks cap (duty k) st n h
-unfolding walk_move move duty
-moves asks cap (Command.Comment t) st n h = refl
-moves asks cap (Command.Date t) st n h = refl
-moves asks cap (Command.Version t) st n h = refl
-moves asks cap (Command.Timescale q u) st n h = refl
-moves asks cap (Command.ScopeDef k t) st n h = refl
-moves asks cap Command.Upscope st n h = refl
-moves asks cap (Command.VarDef k w i t x) st n h = refl
-moves asks cap Command.Enddefinitions st n h = refl
-moves asks cap (Command.Timestamp t) st n h = refl
-moves asks cap (Command.ChangeScalar i v) st n h = refl
-moves asks cap (Command.ChangeVector i v) st n h = refl
-moves asks cap (Command.ChangeReal i v) st n h = refl
-moves asks cap (Command.ChangeString i v) st n h = refl
-moves asks cap (Command.Begin k) st n h = refl
-moves asks cap (Command.End k) st n h = refl
+moves : (cap : ℕ) (k : Command) (st : List ℕ) (n : ℕ) (h : Header) → move cap k st n h ≡ move_by cap (duty k) st n h
+unfolding move duty
+moves cap (Command.Comment t) st n h = refl
+moves cap (Command.Date t) st n h = refl
+moves cap (Command.Version t) st n h = refl
+moves cap (Command.Timescale q u) st n h = refl
+moves cap (Command.ScopeDef k t) st n h = refl
+moves cap Command.Upscope st n h = refl
+moves cap (Command.VarDef k w i t x) st n h = refl
+moves cap Command.Enddefinitions st n h = refl
+moves cap (Command.Timestamp t) st n h = refl
+moves cap (Command.ChangeScalar i v) st n h = refl
+moves cap (Command.ChangeVector i v) st n h = refl
+moves cap (Command.ChangeReal i v) st n h = refl
+moves cap (Command.ChangeString i v) st n h = refl
+moves cap (Command.Begin k) st n h = refl
+moves cap (Command.End k) st n h = refl
 
--- ---- the rest of a walk, by the next answer
-module _ (asks : Bool) (s : List ℕ) (cap : ℕ) (m : List ℕ) (n : ℕ) (c d : Cursor) (st : List ℕ) (h : Header) where
-  by_next : (x : Next) → next_from s c ≡ x → rest asks s cap c st n h ≡ walked asks cap (followed (commands s) x) st n h
-  by_next x e = ap (λ (y : Commands). walked asks cap y st n h) (commands-step s c ∙ ap (followed (commands s)) e)
+-- ---- the rest of a header, by the next answer
+module _ (s : List ℕ) (cap : ℕ) (m : List ℕ) (n : ℕ) (c d : Cursor) (st : List ℕ) (h : Header) where
+  by_next : (x : Next) → next_from s c ≡ x → rest s cap c st n h ≡ read_rows cap (followed (commands s) x) st n h
+  by_next x e = ap (λ (y : Commands). read_rows cap y st n h) (commands-step s c ∙ ap (followed (commands s)) e)
 
-  none_more : (e : WalkEnd) → after m n (ending h e d) ≡ final h e d n m
+  none_more : (e : Ended) → after m n (ending h e d) ≡ final h e d n m
   none_more e = ap (λ (k : ℕ). final h e d k m) (add-zero n)
 
-  pub rest-refused : (e : Refusal) (l : ℕ) → next_from s c ≡ Next.Refused e l d → after m n (rest asks s cap c st n h) ≡ final h (WalkEnd.Refused e l) d n m
-  unfolding walked
-  rest-refused e l q = ap (after m n) (by_next (Next.Refused e l d) q) ∙ none_more (WalkEnd.Refused e l)
+  pub rest-refused : (e : Refusal) (l : ℕ) → next_from s c ≡ Next.Refused e l d → after m n (rest s cap c st n h) ≡ final h (Ended.Refused e l) d n m
+  unfolding read_rows
+  rest-refused e l q = ap (after m n) (by_next (Next.Refused e l d) q) ∙ none_more (Ended.Refused e l)
 
-  pub rest-done : next_from s c ≡ Next.Done d → after m n (rest asks s cap c st n h) ≡ final h (WalkEnd.Refused Refusal.UnexpectedEof d.line) d n m
-  unfolding walked
-  rest-done q = ap (after m n) (by_next (Next.Done d) q) ∙ none_more (WalkEnd.Refused Refusal.UnexpectedEof d.line)
+  pub rest-done : next_from s c ≡ Next.Done d → after m n (rest s cap c st n h) ≡ final h (Ended.Refused Refusal.UnexpectedEof d.line) d n m
+  unfolding read_rows
+  rest-done q = ap (after m n) (by_next (Next.Done d) q) ∙ none_more (Ended.Refused Refusal.UnexpectedEof d.line)
 
   module _ (k : Command) (q : next_from s c ≡ Next.Command k d) where
-    abbrev more : List ℕ → List Row → Header → Walked
-    more st' rs h' = rest asks s cap d st' (n + length rs) h'
+    abbrev more : List ℕ → List Row → Header → Outcome
+    more st' rs h' = rest s cap d st' (n + length rs) h'
 
-    by-command : rest asks s cap c st n h ≡ follow k d h (walk_move asks cap k st n h) more
-    unfolding walked
+    by-command : rest s cap c st n h ≡ follow d h (move cap k st n h) more
+    unfolding read_rows
     by-command = by_next (Next.Command k d) q
 
-    by_move : (v : Step) → move_by asks cap (duty k) st n h ≡ v → after m n (rest asks s cap c st n h) ≡ after m n (follow k d h v more)
-    by_move v e = ap (after m n) (by-command ∙ ap (λ (w : Step). follow k d h w more) (moves asks cap k st n h ∙ e))
+    by_move : (v : Step) → move_by cap (duty k) st n h ≡ v → after m n (rest s cap c st n h) ≡ after m n (follow d h v more)
+    by_move v e = ap (after m n) (by-command ∙ ap (λ (w : Step). follow d h w more) (moves cap k st n h ∙ e))
 
-    stops : (x : Refusal) → move_by asks cap (duty k) st n h ≡ off x → after m n (rest asks s cap c st n h) ≡ final h (end_by k d x) d n m
-    stops x e = by_move (off x) e ∙ none_more (end_by k d x)
+    stops : (x : Refusal) → move_by cap (duty k) st n h ≡ off x → after m n (rest s cap c st n h) ≡ final h (Ended.Refused x d.line) d n m
+    stops x e = by_move (off x) e ∙ none_more (Ended.Refused x d.line)
 
-    finishes : move_by asks cap (duty k) st n h ≡ whole → after m n (rest asks s cap c st n h) ≡ final h WalkEnd.Whole d n m
-    finishes e = by_move whole e ∙ none_more WalkEnd.Whole
+    finishes : move_by cap (duty k) st n h ≡ whole → after m n (rest s cap c st n h) ≡ final h Ended.Whole d n m
+    finishes e = by_move whole e ∙ none_more Ended.Whole
 
-    steps : (st' : List ℕ) (r : Row) → move_by asks cap (duty k) st n h ≡ on st' (r ∷ []) h
-        → after m n (rest asks s cap c st n h) ≡ after (put m n (row_words r)) (n + 1) (rest asks s cap d st' (n + 1) h)
+    steps : (st' : List ℕ) (r : Row) → move_by cap (duty k) st n h ≡ on st' (r ∷ []) h
+        → after m n (rest s cap c st n h) ≡ after (put m n (row_words r)) (n + 1) (rest s cap d st' (n + 1) h)
     steps st' r e =
-        let o : Walked = rest asks s cap d st' (n + 1) h in
+        let o : Outcome = rest s cap d st' (n + 1) h in
         by_move (on st' (r ∷ []) h) e
         ∙ ap (λ (j : ℕ). final o.kept o.ended o.cursor j (fill (put m n (row_words r)) (n + 1) o.rows))
         (let x : n + suc (length o.rows) ≡ n + 1 + length o.rows = omega arith in x)
 
-    passes : (st' : List ℕ) (h' : Header) → move_by asks cap (duty k) st n h ≡ on st' [] h' → after m n (rest asks s cap c st n h) ≡ after m n (rest asks s cap d st' n h')
-    passes st' h' e = by_move (on st' [] h') e ∙ ap (λ (j : ℕ). after m n (rest asks s cap d st' j h')) (add-zero n)
+    passes : (st' : List ℕ) (h' : Header) → move_by cap (duty k) st n h ≡ on st' [] h' → after m n (rest s cap c st n h) ≡ after m n (rest s cap d st' n h')
+    passes st' h' e = by_move (on st' [] h') e ∙ ap (λ (j : ℕ). after m n (rest s cap d st' j h')) (add-zero n)
 
 -- ---- an item
 module _ (s : List ℕ) (cap levels : ℕ) (p : Parent) (c d : Cursor) (m : List ℕ) (n : ℕ) (k : Command) (q : next_from s c ≡ Next.Command k d) where
   abbrev Taken : Item → List ℕ → Type 0
   Taken = Took s cap p levels c m n
 
-  full : ((asks : Bool) (st : List ℕ) (h : Header) → Here levels p st → move_by asks cap (duty k) st n h ≡ off Refusal.TableFull) → Taken (Item.Refused Refusal.TableFull d.line d) m
-  full f asks st h w = stops asks s cap m n c d st h k q Refusal.TableFull (f asks st h w)
+  full : ((st : List ℕ) (h : Header) → Here levels p st → move_by cap (duty k) st n h ≡ off Refusal.TableFull) → Taken (Item.Refused Refusal.TableFull d.line d) m
+  full f st h w = stops s cap m n c d st h k q Refusal.TableFull (f st h w)
 
   took_by : (y : Duty) → duty k ≡ y → Taken (item_by cap levels n k d y) (table_by cap p levels n m y)
   took_by (scope r) e =
       by-test (eqb levels 0)
       (λ z.
       let a : levels ≡ 0 = eqb-true levels 0 z in
-      rw z (λ asks st h w. stops asks s cap m n c d st h k q Refusal.TooDeep (rw (e, le-ltb (length st) 64 (omega (arith, w.0))))))
+      rw z (λ st h w. stops s cap m n c d st h k q Refusal.TooDeep (rw (e, le-ltb (length st) 64 (omega (arith, w.0))))))
       (λ z.
       let a = eqb-false levels 0 z in
       by-test (ltb n cap)
@@ -126,17 +124,16 @@ module _ (s : List ℕ) (cap levels : ℕ) (p : Parent) (c d : Cursor) (m : List
         (
           ltb-true n cap t,
           less-left s c d k q,
-          λ asks st h w. rw (← w.1) (steps asks s cap m n c d st h k q (n ∷ st) (r (inner st)) (rw (e, lt-ltb (length st) 64 (omega (arith, w.0)), t))),
+          λ st h w. rw (← w.1) (steps s cap m n c d st h k q (n ∷ st) (r (inner st)) (rw (e, lt-ltb (length st) 64 (omega (arith, w.0)), t))),
         ),
       ))
-      (λ t. rw (z, t) (full (λ asks st h w. rw (e, lt-ltb (length st) 64 (omega (arith, w.0)), t)))))
+      (λ t. rw (z, t) (full (λ st h w. rw (e, lt-ltb (length st) 64 (omega (arith, w.0)), t)))))
   took_by (leaf r) e =
       by-test (ltb n cap)
       (λ t.
-      rw t (ltb-true n cap t, less-left s c d k q, λ asks st h w. rw (← w.1) (steps asks s cap m n c d st h k q st (r (inner st)) (rw (e, t)))))
-      (λ t. rw t (full (λ asks st h w. rw (e, t))))
+      rw t (ltb-true n cap t, less-left s c d k q, λ st h w. rw (← w.1) (steps s cap m n c d st h k q st (r (inner st)) (rw (e, t)))))
+      (λ t. rw t (full (λ st h w. rw (e, t))))
   took_by (keeps f) e = (refl, q, ap has_row e)
-  took_by (scales v f) e = (refl, q, ap has_row e)
   took_by closes e = (refl, q, ap has_row e)
   took_by ends e = (refl, q, ap has_row e)
   took_by strange e = (refl, q, ap has_row e)
@@ -147,20 +144,19 @@ module _ (s : List ℕ) (cap levels : ℕ) (p : Parent) (c d : Cursor) (m : List
 
 -- ---- the end of a scope
 module _ (s : List ℕ) (cap p levels : ℕ) (c d : Cursor) (m : List ℕ) (n : ℕ) (b : n ≤ cap) (k : Command) (q : next_from s c ≡ Next.Command k d) where
-  misplaced : ((asks : Bool) (st : List ℕ) (h : Header) → move_by asks cap (duty k) (p ∷ st) n h ≡ off Refusal.UnexpectedHeaderCommand)
-      → Follows s cap p levels c m n (Part.Ended (WalkEnd.Strange k) d n) m
-  misplaced f = (b, λ asks st h w. stops asks s cap m n c d (p ∷ st) h k q Refusal.UnexpectedHeaderCommand (f asks st h))
+  misplaced : ((st : List ℕ) (h : Header) → move_by cap (duty k) (p ∷ st) n h ≡ off Refusal.UnexpectedHeaderCommand)
+      → Follows s cap p levels c m n (Part.Refused Refusal.UnexpectedHeaderCommand d.line d n) m
+  misplaced f = (b, λ st h w. stops s cap m n c d (p ∷ st) h k q Refusal.UnexpectedHeaderCommand (f st h))
 
-  close-by : (y : Duty) → duty k ≡ y → has_row y ≡ false → Follows s cap p levels c m n (close_by k d n y) m
+  close-by : (y : Duty) → duty k ≡ y → has_row y ≡ false → Follows s cap p levels c m n (close_by d n y) m
   close-by (scope r) e z = absurd (false≢true (sym z))
   close-by (leaf r) e z = absurd (false≢true (sym z))
-  close-by (keeps f) e z = misplaced (λ asks st h. rw e)
-  close-by (scales v f) e z = misplaced (λ asks st h. by-test (takes asks v) (λ t. rw (e, t)) (λ t. rw (e, t)))
+  close-by (keeps f) e z = misplaced (λ st h. rw e)
   close-by closes e z =
       let l = less-left s c d k q in
-      (b, omega arith, λ asks st h w. passes asks s cap m n c d (p ∷ st) h k q st h (rw e))
-  close-by ends e z = misplaced (λ asks st h. rw e)
-  close-by strange e z = misplaced (λ asks st h. rw e)
+      (b, omega arith, λ st h w. passes s cap m n c d (p ∷ st) h k q st h (rw e))
+  close-by ends e z = misplaced (λ st h. rw e)
+  close-by strange e z = misplaced (λ st h. rw e)
 
   close-here : has_row (duty k) ≡ false → (x : Part) → x ≡ close_of k d n → Follows s cap p levels c m n x m
   unfolding close_of
@@ -169,7 +165,7 @@ module _ (s : List ℕ) (cap p levels : ℕ) (c d : Cursor) (m : List ℕ) (n : 
 -- ---- some variables
 -- none
 pub passes_none : (s : List ℕ) (cap : ℕ) (p : Parent) (c : Cursor) (m : List ℕ) (n : ℕ) → n ≤ cap → Passes s cap p c m n c n m
-passes_none s cap p c m n b = (b, omega arith, λ levels asks st h w. refl)
+passes_none s cap p c m n b = (b, omega arith, λ levels st h w. refl)
 
 -- one more
 pub passes-more : (s : List ℕ) (cap : ℕ) (p : Parent) (c₀ : Cursor) (m₀ : List ℕ) (n₀ : ℕ) (c : Cursor) (n : ℕ) (m : List ℕ) (v : Var) (d : Cursor)
@@ -179,20 +175,20 @@ unfolding duty
 passes-more s cap p c₀ m₀ n₀ c n m v d f q b = (
   omega arith,
   omega (arith, f.1, less-left s c d (var_def v v.index) q),
-  λ levels asks st h w.
-      f.2 levels asks st h w
-      ∙ rw (← w.1) (steps asks s cap m n c d st h (var_def v v.index) q st (Row.Var (inner st) v) (rw (lt-ltb n cap b))),
+  λ levels st h w.
+      f.2 levels st h w
+      ∙ rw (← w.1) (steps s cap m n c d st h (var_def v v.index) q st (Row.Var (inner st) v) (rw (lt-ltb n cap b))),
 )
 
 -- ---- within the scope at row p: with n rows in the table m at c, the rest of the reading ends as from c₀, where n₀ are in m₀
 pub record Reached (s : List ℕ) (cap p levels : ℕ) (c₀ : Cursor) (m₀ : List ℕ) (n₀ : ℕ) (c : Cursor) (m : List ℕ) (n : ℕ) : Type 0 where
   pub room : n ≤ cap
   pub ahead : length s - c.place ≤ length s - c₀.place
-  pub same : (asks : Bool) (st : List ℕ) (h : Header) → suc (length st) + levels ≡ 64
-      → after m₀ n₀ (rest asks s cap c₀ (p ∷ st) n₀ h) ≡ after m n (rest asks s cap c (p ∷ st) n h)
+  pub same : (st : List ℕ) (h : Header) → suc (length st) + levels ≡ 64
+      → after m₀ n₀ (rest s cap c₀ (p ∷ st) n₀ h) ≡ after m n (rest s cap c (p ∷ st) n h)
 
 pub reached-start : (s : List ℕ) (cap p levels : ℕ) (c : Cursor) (m : List ℕ) (n : ℕ) → n ≤ cap → Reached s cap p levels c m n c m n
-reached-start s cap p levels c m n b = record { room = b; ahead = omega arith; same = λ asks st h w. refl }
+reached-start s cap p levels c m n b = record { room = b; ahead = omega arith; same = λ st h w. refl }
 
 module _ {s : List ℕ} {cap p levels n₀ n : ℕ} {c₀ c : Cursor} {m₀ m : List ℕ} (i : Reached s cap p levels c₀ m₀ n₀ c m n) where
   abbrev Item-here : Item → List ℕ → Type 0
@@ -209,14 +205,14 @@ module _ {s : List ℕ} {cap p levels n₀ n : ℕ} {c₀ c : Cursor} {m₀ m : 
   reached-vars d n' m' f = record {
     room = f.0;
     ahead = omega (arith, f.1, i.ahead);
-    same = λ asks st h w. i.same asks st h w ∙ f.2 levels asks (p ∷ st) h (w, refl);
+    same = λ st h w. i.same st h w ∙ f.2 levels (p ∷ st) h (w, refl);
   }
 
   pub reached-leaf : (d : Cursor) (m' : List ℕ) → Item-here (Item.Leaf d) m' → On d m' (n + 1)
   reached-leaf d m' g = record {
     room = omega (arith, g.0);
     ahead = omega (arith, g.1, i.ahead);
-    same = λ asks st h w. i.same asks st h w ∙ g.2 asks (p ∷ st) h (w, refl);
+    same = λ st h w. i.same st h w ∙ g.2 (p ∷ st) h (w, refl);
   }
 
   pub reached-scope : (d e : Cursor) (n' : ℕ) (m' m'' : List ℕ) → Item-here (Item.Scope d) m'
@@ -224,7 +220,7 @@ module _ {s : List ℕ} {cap p levels n₀ n : ℕ} {c₀ c : Cursor} {m₀ m : 
   reached-scope d e n' m' m'' g f = record {
     room = f.0;
     ahead = omega (arith, g.1.1, f.1, i.ahead);
-    same = λ asks st h w. i.same asks st h w ∙ g.1.2 asks (p ∷ st) h (w, refl) ∙ f.2 asks (p ∷ st) h (omega (arith, g.0, w));
+    same = λ st h w. i.same st h w ∙ g.1.2 (p ∷ st) h (w, refl) ∙ f.2 (p ∷ st) h (omega (arith, g.0, w));
   }
 
   -- the end: `$upscope` or a command that may not stand here, a refusal, a refusal within a scope
@@ -232,36 +228,31 @@ module _ {s : List ℕ} {cap p levels n₀ n : ℕ} {c₀ c : Cursor} {m₀ m : 
   ends-other k d m' x g e = rw g.0 (onward x (close-here s cap p levels c d m n i.room k g.1 g.2 x e))
     where
       onward : (y : Part) → Follows s cap p levels c m n y m → Ends y m
-      onward (Part.Closed a b) f = (f.0, omega (arith, f.1, i.ahead), λ asks st h w. i.same asks st h w ∙ f.2 asks st h w)
-      onward (Part.Ended x a b) f = (f.0, λ asks st h w. i.same asks st h w ∙ f.1 asks st h w)
+      onward (Part.Closed a b) f = (f.0, omega (arith, f.1, i.ahead), λ st h w. i.same st h w ∙ f.2 st h w)
+      onward (Part.Refused r l a b) f = (f.0, λ st h w. i.same st h w ∙ f.1 st h w)
 
-  pub ends-refused : (r : Refusal) (l : ℕ) (d : Cursor) (m' : List ℕ) → Item-here (Item.Refused r l d) m' → Ends (Part.Ended (WalkEnd.Refused r l) d n) m'
-  ends-refused r l d m' g = (i.room, λ asks st h w. i.same asks st h w ∙ g asks (p ∷ st) h (w, refl))
+  pub ends-refused : (r : Refusal) (l : ℕ) (d : Cursor) (m' : List ℕ) → Item-here (Item.Refused r l d) m' → Ends (Part.Refused r l d n) m'
+  ends-refused r l d m' g = (i.room, λ st h w. i.same st h w ∙ g (p ∷ st) h (w, refl))
 
-  pub ends-within : (d : Cursor) (x : WalkEnd) (e : Cursor) (n' : ℕ) (m' m'' : List ℕ) → Item-here (Item.Scope d) m'
-      → Follows s cap n (levels - 1) d m' (n + 1) (Part.Ended x e n') m'' → Ends (Part.Ended x e n') m''
-  ends-within d x e n' m' m'' g f =
-      (f.0, λ asks st h w. i.same asks st h w ∙ g.1.2 asks (p ∷ st) h (w, refl) ∙ f.1 asks (p ∷ st) h (omega (arith, g.0, w)))
+  pub ends-within : (d : Cursor) (r : Refusal) (l : ℕ) (e : Cursor) (n' : ℕ) (m' m'' : List ℕ) → Item-here (Item.Scope d) m'
+      → Follows s cap n (levels - 1) d m' (n + 1) (Part.Refused r l e n') m'' → Ends (Part.Refused r l e n') m''
+  ends-within d r l e n' m' m'' g f =
+      (f.0, λ st h w. i.same st h w ∙ g.1.2 (p ∷ st) h (w, refl) ∙ f.1 (p ∷ st) h (omega (arith, g.0, w)))
 
 -- ---- what is kept at top
-abbrev pub Keeps : Bool → List ℕ → ℕ → Cursor → Cursor → List ℕ → ℕ → Header → Move → Type 0
-Keeps asks s cap c d m n h (Move.On h') = after m n (rest asks s cap c [] n h) ≡ after m n (rest asks s cap d [] n h')
-Keeps asks s cap c d m n h (Move.Ends x) = after m n (rest asks s cap c [] n h) ≡ final h x d n m
+abbrev pub Keeps : List ℕ → ℕ → Cursor → Cursor → List ℕ → ℕ → Header → Move → Type 0
+Keeps s cap c d m n h (Move.On h') = after m n (rest s cap c [] n h) ≡ after m n (rest s cap d [] n h')
+Keeps s cap c d m n h (Move.Ends x) = after m n (rest s cap c [] n h) ≡ final h x d n m
 
-module _ (asks : Bool) (s : List ℕ) (cap : ℕ) (c d : Cursor) (m : List ℕ) (n : ℕ) (h : Header) (k : Command) (q : next_from s c ≡ Next.Command k d) where
-  odd : move_by asks cap (duty k) [] n h ≡ off Refusal.UnexpectedHeaderCommand → Keeps asks s cap c d m n h (Move.Ends (WalkEnd.Strange k))
-  odd e = stops asks s cap m n c d [] h k q Refusal.UnexpectedHeaderCommand e
-
-  keep-by : (y : Duty) → duty k ≡ y → has_row y ≡ false → Keeps asks s cap c d m n h (keep_by asks h k y)
+module _ (s : List ℕ) (cap : ℕ) (c d : Cursor) (m : List ℕ) (n : ℕ) (h : Header) (k : Command) (q : next_from s c ≡ Next.Command k d) where
+  keep-by : (y : Duty) → duty k ≡ y → has_row y ≡ false → Keeps s cap c d m n h (keep_by h d.line y)
   keep-by (scope r) e z = absurd (false≢true (sym z))
   keep-by (leaf r) e z = absurd (false≢true (sym z))
-  keep-by (keeps f) e z = passes asks s cap m n c d [] h k q [] (f h) (rw e)
-  keep-by (scales v f) e z =
-      by-test (takes asks v) (λ t. rw t (passes asks s cap m n c d [] h k q [] (f h) (rw (e, t)))) (λ t. rw t (odd (rw (e, t))))
-  keep-by closes e z = odd (rw e)
-  keep-by ends e z = finishes asks s cap m n c d [] h k q (rw e)
-  keep-by strange e z = odd (rw e)
+  keep-by (keeps f) e z = passes s cap m n c d [] h k q [] (f h) (rw e)
+  keep-by closes e z = stops s cap m n c d [] h k q Refusal.UnexpectedHeaderCommand (rw e)
+  keep-by ends e z = finishes s cap m n c d [] h k q (rw e)
+  keep-by strange e z = stops s cap m n c d [] h k q Refusal.UnexpectedHeaderCommand (rw e)
 
-  pub keep-here : has_row (duty k) ≡ false → (x : Move) → x ≡ keep_of asks h k → Keeps asks s cap c d m n h x
+  pub keep-here : has_row (duty k) ≡ false → (x : Move) → x ≡ keep_of h k d.line → Keeps s cap c d m n h x
   unfolding keep_of
   keep-here z x e = rw e (keep-by (duty k) refl z)

@@ -7,12 +7,12 @@ use native.Mathlib.Nat.{add-zero, zero-add}
 use lib.ListN.{length, take, drop, length-append, length-drop, take-append-drop}
 use lib.Seq.{length-take-le, take_at, drop-append-add, drop-drop}
 use Rattle.token.specs.declared.Cursor.{Cursor}
+use Rattle.header.specs.Header.{Outcome, answer_of}
 use Rattle.header.specs.Level.{final, fill, after}
-use Rattle.header.specs.Walk.{Walked, walk_answer}
 use Rattle.rows.specs.Rows.{words_in, row_words, words_of, put, filled}
+use Rattle.header.specs.declared.Ended.{Ended}
 use Rattle.header.specs.declared.Header.{Header}
-use Rattle.header.specs.declared.HeaderWalk.{HeaderWalk}
-use Rattle.header.specs.declared.WalkEnd.{WalkEnd}
+use Rattle.header.specs.declared.HeaderAnswer.{HeaderAnswer}
 use Rattle.rows.specs.declared.Row.{Row}
 use Rattle.rows.proofs.Words.{ten}
 
@@ -60,8 +60,8 @@ fill-words m n (r ∷ rs) h =
     )
     (ap (λ (l : List ℕ). take (10 * n) m ++ l) (sym (append_assoc (row_words r) (words_of rs) (drop (10 * (n + suc (length rs))) m))))
 
-pub settled : (m : List ℕ) (o : Walked) (h : Header) (x : WalkEnd) (d : Cursor) (n : ℕ) (m' : List ℕ) → after m 0 o ≡ final h x d n m' → 10 * n ≤ length m
-    → (◌≡◌ {A = HeaderWalk} (record { cursor = d; count = n; header = h; ended = x }) (walk_answer o)) × (m' ≡ filled o.rows m)
+pub settled : (m : List ℕ) (o : Outcome) (h : Header) (x : Ended) (d : Cursor) (n : ℕ) (m' : List ℕ) → after m 0 o ≡ final h x d n m' → 10 * n ≤ length m
+    → (◌≡◌ {A = HeaderAnswer} (record { cursor = d; count = n; header = h; ended = x }) (answer_of o)) × (m' ≡ filled o.rows m)
 settled m o h x d n m' e l =
     let eh : o.kept ≡ h = cc in
     let ex : o.ended ≡ x = cc in

@@ -12,14 +12,13 @@ use Rattle.scope.specs.declared.Var.{Var}
 use Rattle.scope.specs.declared.VarType.{VarType}
 use Rattle.text.specs.declared.Text.{Text}
 use Rattle.token.specs.declared.Cursor.{Cursor}
-use Rattle.header.specs.Header.{inner, with_date, with_version, with_timescale}
-use Rattle.header.specs.Walk.{takes, Walked, walked}
+use Rattle.header.specs.Header.{Outcome, inner, read_rows, with_date, with_version, with_timescale}
 use Rattle.rows.specs.Rows.{put, row_words}
+use Rattle.header.specs.declared.Ended.{Ended}
 use Rattle.header.specs.declared.Header.{Header}
 use Rattle.header.specs.declared.Item.{Item}
 use Rattle.header.specs.declared.Move.{Move}
 use Rattle.header.specs.declared.Part.{Part}
-use Rattle.header.specs.declared.WalkEnd.{WalkEnd}
 use Rattle.rows.specs.declared.Parent.{Parent}
 use Rattle.rows.specs.declared.Row.{Row}
 
@@ -32,7 +31,6 @@ pub data Duty : Type 0 where
   scope : (Parent → Row) → Duty
   leaf : (Parent → Row) → Duty
   keeps : (Header → Header) → Duty
-  scales : ℕ → (Header → Header) → Duty
   closes : Duty
   ends : Duty
   strange : Duty
@@ -41,7 +39,7 @@ unfoldable pub duty : Command → Duty
 duty (Command.Comment t) = leaf (λ p. Row.Comment p t)
 duty (Command.Date t) = keeps (λ h. with_date h t)
 duty (Command.Version t) = keeps (λ h. with_version h t)
-duty (Command.Timescale q u) = scales q (λ h. with_timescale h q u)
+duty (Command.Timescale q u) = keeps (λ h. with_timescale h q u)
 duty (Command.ScopeDef k t) = scope (λ p. Row.Scope p k t)
 duty Command.Upscope = closes
 duty (Command.VarDef k w i t x) = leaf (λ p. Row.Var p (var_of k w i t x))
@@ -58,7 +56,6 @@ abbrev pub has_row : Duty → Bool
 has_row (scope r) = true
 has_row (leaf r) = true
 has_row (keeps f) = false
-has_row (scales q f) = false
 has_row closes = false
 has_row ends = false
 has_row strange = false
@@ -72,7 +69,6 @@ item_by cap levels n k d (scope r) =
     cond (eqb levels 0) (refused Refusal.TooDeep d) (cond (ltb n cap) (Item.Scope d) (refused Refusal.TableFull d))
 item_by cap levels n k d (leaf r) = cond (ltb n cap) (Item.Leaf d) (refused Refusal.TableFull d)
 item_by cap levels n k d (keeps f) = Item.Other k d
-item_by cap levels n k d (scales q f) = Item.Other k d
 item_by cap levels n k d closes = Item.Other k d
 item_by cap levels n k d ends = Item.Other k d
 item_by cap levels n k d strange = Item.Other k d
@@ -84,7 +80,6 @@ abbrev pub table_by : ℕ → Parent → ℕ → ℕ → List ℕ → Duty → L
 table_by cap p levels n m (scope r) = cond (eqb levels 0) m (cond (ltb n cap) (put m n (row_words (r p))) m)
 table_by cap p levels n m (leaf r) = cond (ltb n cap) (put m n (row_words (r p))) m
 table_by cap p levels n m (keeps f) = m
-table_by cap p levels n m (scales q f) = m
 table_by cap p levels n m closes = m
 table_by cap p levels n m ends = m
 table_by cap p levels n m strange = m
@@ -93,50 +88,48 @@ unfoldable pub table_of : ℕ → Parent → ℕ → ℕ → Command → List �
 table_of cap p levels n k m = table_by cap p levels n m (duty k)
 
 -- inside a scope only `$upscope` is left
-abbrev pub close_by : Command → Cursor → ℕ → Duty → Part
-close_by k d n closes = Part.Closed d n
-close_by k d n (scope r) = Part.Ended (WalkEnd.Strange k) d n
-close_by k d n (leaf r) = Part.Ended (WalkEnd.Strange k) d n
-close_by k d n (keeps f) = Part.Ended (WalkEnd.Strange k) d n
-close_by k d n (scales q f) = Part.Ended (WalkEnd.Strange k) d n
-close_by k d n ends = Part.Ended (WalkEnd.Strange k) d n
-close_by k d n strange = Part.Ended (WalkEnd.Strange k) d n
+abbrev pub close_by : Cursor → ℕ → Duty → Part
+close_by d n closes = Part.Closed d n
+close_by d n (scope r) = Part.Refused Refusal.UnexpectedHeaderCommand d.line d n
+close_by d n (leaf r) = Part.Refused Refusal.UnexpectedHeaderCommand d.line d n
+close_by d n (keeps f) = Part.Refused Refusal.UnexpectedHeaderCommand d.line d n
+close_by d n ends = Part.Refused Refusal.UnexpectedHeaderCommand d.line d n
+close_by d n strange = Part.Refused Refusal.UnexpectedHeaderCommand d.line d n
 
 unfoldable pub close_of : Command → Cursor → ℕ → Part
-close_of k d n = close_by k d n (duty k)
+close_of k d n = close_by d n (duty k)
 
 -- at top: what is kept, and the end
-abbrev pub misplaced : Command → Move
-misplaced k = Move.Ends (WalkEnd.Strange k)
+abbrev pub misplaced : ℕ → Move
+misplaced line = Move.Ends (Ended.Refused Refusal.UnexpectedHeaderCommand line)
 
-abbrev pub keep_by : Bool → Header → Command → Duty → Move
-keep_by asks h k (keeps f) = Move.On (f h)
-keep_by asks h k (scales q f) = cond (takes asks q) (Move.On (f h)) (misplaced k)
-keep_by asks h k ends = Move.Ends WalkEnd.Whole
-keep_by asks h k (scope r) = misplaced k
-keep_by asks h k (leaf r) = misplaced k
-keep_by asks h k closes = misplaced k
-keep_by asks h k strange = misplaced k
+abbrev pub keep_by : Header → ℕ → Duty → Move
+keep_by h line (keeps f) = Move.On (f h)
+keep_by h line ends = Move.Ends Ended.Whole
+keep_by h line (scope r) = misplaced line
+keep_by h line (leaf r) = misplaced line
+keep_by h line closes = misplaced line
+keep_by h line strange = misplaced line
 
-unfoldable pub keep_of : Bool → Header → Command → Move
-keep_of asks h k = keep_by asks h k (duty k)
+unfoldable pub keep_of : Header → Command → ℕ → Move
+keep_of h k line = keep_by h line (duty k)
 
 -- ---- how everything ends: what is kept, the end, the cursor, the rows made, the table
 pub data Final : Type 0 where
-  final : Header → WalkEnd → Cursor → ℕ → List ℕ → Final
+  final : Header → Ended → Cursor → ℕ → List ℕ → Final
 
 -- rows stored one after the other, from row n on
 abbrev pub fill : List ℕ → ℕ → List Row → List ℕ
 fill m n [] = m
 fill m n (r ∷ rs) = fill (put m n (row_words r)) (n + 1) rs
 
--- what comes of a walk that is still to come, where n rows are in the table m already
-abbrev pub after : List ℕ → ℕ → Walked → Final
+-- what comes of an outcome that is still to come, where n rows are in the table m already
+abbrev pub after : List ℕ → ℕ → Outcome → Final
 after m n o = final o.kept o.ended o.cursor (n + length o.rows) (fill m n o.rows)
 
--- the rest of a walk from a cursor on
-abbrev pub rest : Bool → List ℕ → ℕ → Cursor → List ℕ → ℕ → Header → Walked
-rest asks s cap c st n h = walked asks cap (commands s c) st n h
+-- the rest of a header from a cursor on
+abbrev pub rest : List ℕ → ℕ → Cursor → List ℕ → ℕ → Header → Outcome
+rest s cap c st n h = read_rows cap (commands s c) st n h
 
 -- ---- the next item, with n rows in the table m before it and the table m' after it; the open scopes are any that fit
 abbrev pub Here : ℕ → Parent → List ℕ → Type 0
@@ -146,28 +139,28 @@ Here levels p st = (length st + levels ≡ most_levels) × (inner st ≡ p)
 abbrev pub Stores : List ℕ → ℕ → Parent → ℕ → Cursor → List ℕ → ℕ → Cursor → List ℕ → (List ℕ → List ℕ) → Type 0
 Stores s cap p levels c m n d m' then =
     (n < cap) × (length s - d.place < length s - c.place)
-    × ((asks : Bool) (st : List ℕ) (h : Header) → Here levels p st → after m n (rest asks s cap c st n h) ≡ after m' (n + 1) (rest asks s cap d (then st) (n + 1) h))
+    × ((st : List ℕ) (h : Header) → Here levels p st → after m n (rest s cap c st n h) ≡ after m' (n + 1) (rest s cap d (then st) (n + 1) h))
 
 abbrev pub Took : List ℕ → ℕ → Parent → ℕ → Cursor → List ℕ → ℕ → Item → List ℕ → Type 0
 Took s cap p levels c m n (Item.Leaf d) m' = Stores s cap p levels c m n d m' (λ st. st)
 Took s cap p levels c m n (Item.Scope d) m' = (0 < levels) × Stores s cap p levels c m n d m' (λ st. n ∷ st)
 Took s cap p levels c m n (Item.Other k d) m' = (m' ≡ m) × (next_from s c ≡ Next.Command k d) × (has_row (duty k) ≡ false)
 Took s cap p levels c m n (Item.Refused e l d) m' =
-    (asks : Bool) (st : List ℕ) (h : Header) → Here levels p st → after m n (rest asks s cap c st n h) ≡ final h (WalkEnd.Refused e l) d n m'
+    (st : List ℕ) (h : Header) → Here levels p st → after m n (rest s cap c st n h) ≡ final h (Ended.Refused e l) d n m'
 
 -- ---- some variables: the reading goes on after them in the same scopes, with n' rows in the table m'
 abbrev pub Passes : List ℕ → ℕ → Parent → Cursor → List ℕ → ℕ → Cursor → ℕ → List ℕ → Type 0
 Passes s cap p c m n d n' m' =
     (n' ≤ cap) × (length s - d.place ≤ length s - c.place)
-    × ((levels : ℕ) (asks : Bool) (st : List ℕ) (h : Header) → Here levels p st → after m n (rest asks s cap c st n h) ≡ after m' n' (rest asks s cap d st n' h))
+    × ((levels : ℕ) (st : List ℕ) (h : Header) → Here levels p st → after m n (rest s cap c st n h) ≡ after m' n' (rest s cap d st n' h))
 
 -- ---- the items of the scope at row p
 abbrev pub Follows : List ℕ → ℕ → ℕ → ℕ → Cursor → List ℕ → ℕ → Part → List ℕ → Type 0
 Follows s cap p levels c m n (Part.Closed d n') m' =
     (n' ≤ cap) × (length s - d.place ≤ length s - c.place)
-    × ((asks : Bool) (st : List ℕ) (h : Header) → suc (length st) + levels ≡ most_levels
-    → after m n (rest asks s cap c (p ∷ st) n h) ≡ after m' n' (rest asks s cap d st n' h))
-Follows s cap p levels c m n (Part.Ended x d n') m' =
+    × ((st : List ℕ) (h : Header) → suc (length st) + levels ≡ most_levels
+    → after m n (rest s cap c (p ∷ st) n h) ≡ after m' n' (rest s cap d st n' h))
+Follows s cap p levels c m n (Part.Refused e l d n') m' =
     (n' ≤ cap)
-    × ((asks : Bool) (st : List ℕ) (h : Header) → suc (length st) + levels ≡ most_levels
-    → after m n (rest asks s cap c (p ∷ st) n h) ≡ final h x d n' m')
+    × ((st : List ℕ) (h : Header) → suc (length st) + levels ≡ most_levels
+    → after m n (rest s cap c (p ∷ st) n h) ≡ final h (Ended.Refused e l) d n' m')

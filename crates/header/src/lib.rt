@@ -1,10 +1,11 @@
 // The header of a dump (`parse_scope`, `parse_header` and the look-ups of vcd 0.7.0): each scope, variable and comment gives a row of
 // a lent table, in file order, with its parent; date, version and timescale are answered by value.
+#![tactic(auto)]
+
 ghost use Rattle.std.specs.Prelude.{◌≡◌, ◌/◌, min, ◌*◌, ◌≤◌, ◌<◌, length};
 ghost use Rattle.header.specs.Header.{header_of, answer_of, nothing as nothing_kept};
-ghost use Rattle.header.specs.Level.{Took, Passes, Follows, item_of, table_of, close_of, keep_of};
-ghost use Rattle.header.specs.Walk.{walk_of, walk_answer, base_end, takes as takes_of};
 ghost use Rattle.rows.specs.Rows.{filled};
+ghost use Rattle.header.specs.Level.{Took, Passes, Follows, item_of, table_of, close_of, keep_of};
 
 use command::{Command, Refusal};
 use fast_var::FastVar;
@@ -16,20 +17,20 @@ use timescale::TimescaleUnit;
 use token::Cursor;
 
 // The last of a command's texts, or none.
-#[derive(Drop)]
+#[derive(Clone, Copy)]
 pub enum KeptText {
     None,
     Is(Text),
 }
 
-#[derive(Drop)]
+#[derive(Clone, Copy)]
 pub enum KeptTimescale {
     None,
     Is(u32, TimescaleUnit),
 }
 
 // What a header keeps beside its rows.
-#[derive(Drop)]
+#[derive(Clone, Copy)]
 pub struct Header {
     pub date: KeptText,
     pub version: KeptText,
@@ -37,13 +38,13 @@ pub struct Header {
 }
 
 // How a header ended: at its `$enddefinitions`, or by a refusal and the line of it.
-#[derive(Drop)]
+#[derive(Clone, Copy)]
 pub enum Ended {
     Whole,
     Refused(Refusal, u64),
 }
 
-#[derive(Drop)]
+#[derive(Clone, Copy)]
 pub struct HeaderAnswer {
     pub cursor: Cursor,
     pub count: usize,
@@ -51,31 +52,15 @@ pub struct HeaderAnswer {
     pub ended: Ended,
 }
 
-// How a walk over a header ended: a command that may not stand where it does is told, for whoever walks to judge.
-#[derive(Drop)]
-pub enum WalkEnd {
-    Whole,
-    Refused(Refusal, u64),
-    Strange(Command),
-}
-
-#[derive(Drop)]
-pub struct HeaderWalk {
-    pub cursor: Cursor,
-    pub count: usize,
-    pub header: Header,
-    pub ended: WalkEnd,
-}
-
 // How the items of a scope ended, with the cursor and the count of rows.
-#[derive(Drop)]
+#[derive(Clone, Copy)]
 enum Part {
     Closed(Cursor, usize),
-    Ended(WalkEnd, Cursor, usize),
+    Refused(Refusal, u64, Cursor, usize),
 }
 
 // The next item: a row without or with items of its own, stored; a command that gives none; or a refusal with its line.
-#[derive(Drop)]
+#[derive(Clone, Copy)]
 enum Item {
     Leaf(Cursor),
     Scope(Cursor),
@@ -84,53 +69,23 @@ enum Item {
 }
 
 // Where reading stands, and the count of rows.
-#[derive(Drop)]
+#[derive(Clone, Copy)]
 struct Taken {
     cursor: Cursor,
     count: usize,
 }
 
 // What a command that gives no row does at top.
-#[derive(Drop)]
+#[derive(Clone, Copy)]
 enum Move {
     On(Header),
-    Ends(WalkEnd),
+    Ends(Ended),
 }
 
 // Reads the header that begins at the cursor.
 pub fn read_header(input: &[u8], c: Cursor, rows: &mut [u64]) -> HeaderAnswer
     ensures answer { result ≡ answer_of (header_of input.now c rows.old) }
     ensures table { rows.new ≡ filled (header_of input.now c rows.old).rows rows.old }
-{
-    let w = walk(input, c, rows, false);
-    let cursor = w.cursor;
-    let header = w.header;
-    let e = w.ended;
-    let ended = base_end(e, cursor.line);
-    HeaderAnswer {
-        cursor,
-        count: w.count,
-        header,
-        ended,
-    }
-}
-
-// A strange command is refused by 8.
-fn base_end(e: WalkEnd, line: u64) -> Ended
-    ensures { result ≡ base_end e line }
-{
-    match e {
-        WalkEnd::Whole => Ended::Whole,
-        WalkEnd::Refused(r, l) => Ended::Refused(r, l),
-        WalkEnd::Strange(_) => Ended::Refused(Refusal::UnexpectedHeaderCommand, line),
-    }
-}
-
-// Reads the header that begins at the cursor, up to a command that may not stand there. A walk that asks takes a timescale only of one
-// of the standard's quantities.
-pub fn walk(input: &[u8], c: Cursor, rows: &mut [u64], asks: bool) -> HeaderWalk
-    ensures answer { result ≡ walk_answer (walk_of asks input.now c rows.old) }
-    ensures table { rows.new ≡ filled (walk_of asks input.now c rows.old).rows rows.old }
 {
     let cap = capacity(rows.len());
     let mut cur = c;
@@ -147,21 +102,21 @@ pub fn walk(input: &[u8], c: Cursor, rows: &mut [u64], asks: bool) -> HeaderWalk
                     cur = e;
                     n = m;
                 }
-                Part::Ended(x, e, m) => {
-                    return answer(e, m, header, x);
+                Part::Refused(r, line, e, m) => {
+                    return answer(e, m, header, Ended::Refused(r, line));
                 }
             },
-            Item::Other(k, d) => match keep(header, k, asks) {
+            Item::Other(k, d) => match keep(header, k, d.line) {
                 Move::On(h) => {
                     cur = d;
                     header = h;
                 }
-                Move::Ends(x) => {
-                    return answer(d, n, header, x);
+                Move::Ends(e) => {
+                    return answer(d, n, header, e);
                 }
             },
             Item::Refused(r, line, d) => {
-                return answer(d, n, header, WalkEnd::Refused(r, line));
+                return answer(d, n, header, Ended::Refused(r, line));
             }
         }
     }
@@ -188,10 +143,10 @@ fn nothing() -> Header
     }
 }
 
-fn answer(cursor: Cursor, count: usize, header: Header, ended: WalkEnd) -> HeaderWalk
+fn answer(cursor: Cursor, count: usize, header: Header, ended: Ended) -> HeaderAnswer
     ensures { result ≡ record { cursor = cursor; count = count; header = header; ended = ended } }
 {
-    HeaderWalk {
+    HeaderAnswer {
         cursor,
         count,
         header,
@@ -228,15 +183,15 @@ fn parse_scope(
                     cur = e;
                     n = m;
                 }
-                Part::Ended(x, e, m) => {
-                    return Part::Ended(x, e, m);
+                Part::Refused(r, line, e, m) => {
+                    return Part::Refused(r, line, e, m);
                 }
             },
             Item::Other(k, d) => {
                 return close(k, d, n);
             }
             Item::Refused(r, line, d) => {
-                return Part::Ended(WalkEnd::Refused(r, line), d, n);
+                return Part::Refused(r, line, d, n);
             }
         }
     }
@@ -355,13 +310,13 @@ fn close(k: Command, d: Cursor, n: usize) -> Part
 {
     match k {
         Command::Upscope => Part::Closed(d, n),
-        _ => Part::Ended(WalkEnd::Strange(k), d, n),
+        _ => Part::Refused(Refusal::UnexpectedHeaderCommand, d.line, d, n),
     }
 }
 
 // At top the latest date, version and timescale are kept.
-fn keep(h: Header, k: Command, asks: bool) -> Move
-    ensures { result ≡ keep_of asks h k }
+fn keep(h: Header, k: Command, line: u64) -> Move
+    ensures { result ≡ keep_of h k line }
 {
     let date = h.date;
     let version = h.version;
@@ -377,27 +332,12 @@ fn keep(h: Header, k: Command, asks: bool) -> Move
             version: KeptText::Is(t),
             timescale,
         }),
-        Command::Timescale(n, u) => {
-            if takes(asks, n) {
-                return Move::On(Header {
-                    date,
-                    version,
-                    timescale: KeptTimescale::Is(n, u),
-                });
-            }
-            Move::Ends(WalkEnd::Strange(k))
-        }
-        Command::Enddefinitions => Move::Ends(WalkEnd::Whole),
-        _ => Move::Ends(WalkEnd::Strange(k)),
+        Command::Timescale(n, u) => Move::On(Header {
+            date,
+            version,
+            timescale: KeptTimescale::Is(n, u),
+        }),
+        Command::Enddefinitions => Move::Ends(Ended::Whole),
+        _ => Move::Ends(Ended::Refused(Refusal::UnexpectedHeaderCommand, line)),
     }
-}
-
-// Whether a walk takes a timescale of this quantity.
-fn takes(asks: bool, n: u32) -> bool
-    ensures { result ≡ takes_of asks n }
-{
-    if asks {
-        return timescale::is_quantity(n);
-    }
-    true
 }

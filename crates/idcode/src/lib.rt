@@ -1,11 +1,13 @@
 // Id codes: the short texts by which a dump names its variables (idcode.rs of vcd 0.7.0).
+#![tactic(auto)]
+
 ghost use Rattle.std.specs.Prelude.{◌≡◌, length};
 ghost use Rattle.text.specs.Texts.{spelled, put_answer, put_bytes};
 ghost use Rattle.idcode.specs.Id.{parse_id, id_text, following};
 
 use text::{Placed, Spelled};
 
-#[derive(Drop)]
+#[derive(Clone, Copy)]
 pub enum InvalidIdCode {
     Empty,
     InvalidChars,
@@ -13,16 +15,16 @@ pub enum InvalidIdCode {
 }
 
 // An id used within the file to refer to a particular variable.
-#[derive(Drop)]
+#[derive(Clone, Copy)]
 pub struct IdCode(pub u64);
 
-#[derive(Drop)]
+#[derive(Clone, Copy)]
 pub enum Parsed {
     Code(IdCode),
     Refused(InvalidIdCode),
 }
 
-#[derive(Drop)]
+#[derive(Clone, Copy)]
 pub enum Following {
     Code(IdCode),
     Nothing,

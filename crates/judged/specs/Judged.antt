@@ -1,10 +1,7 @@
--- Limits, which part is judged first, and why a number is refused: what a reader at the start of an input answers, in the page's numbers.
-use Rattle.std.specs.Prelude.{ℕ, ◌≡◌, List, [], ◌∷◌, ◌++◌}
+-- Limits, and which part is judged first: what a reader at the start of an input answers, as the page's number.
+use Rattle.std.specs.Prelude.{ℕ, List, [], ◌∷◌, ◌++◌}
 use Rattle.text.specs.Bytes.{bytes}
-use Rattle.number.specs.Decimal.{parse_signed}
-use Rattle.number.specs.declared.IntError.{IntError}
-use Rattle.number.specs.declared.Signed.{Signed}
-use Rattle.command.specs.Refusals.{number_of, reason_of}
+use Rattle.command.specs.Refusals.{number_of}
 use Rattle.parser.specs.Next.{next_from, fresh}
 use Rattle.parser_part.specs.declared.Next.{Next}
 
@@ -16,15 +13,6 @@ numbered (Next.Done d) = 255
 
 abbrev pub answered : List ℕ → ℕ
 answered s = numbered (next_from s fresh)
-
--- the reason of 9; 0 for any other answer
-abbrev pub reasoned : Next → ℕ
-reasoned (Next.Command k d) = 0
-reasoned (Next.Refused e n d) = reason_of e
-reasoned (Next.Done d) = 0
-
-abbrev pub reason_for : List ℕ → ℕ
-reason_for s = reasoned (next_from s fresh)
 
 -- a byte that no UTF-8 has, and a blank; a letter that is not ASCII, and a blank
 abbrev pub not_utf8 : List ℕ
@@ -60,23 +48,3 @@ judged =
     ∷ (bytes "$var wire 1 ! a [0] b ", 5)
     ∷ (bytes "$var wire 1 ! a [0] $end ", 0)
     ∷ []
-
--- Request 4: a number is judged from the left, at each character a bad digit before overflow. A sign alone is a bad digit, and so is a minus
--- where none is taken. A number too small is met inside an index alone, which is refused by 14.
-abbrev pub reasons : List (List ℕ × ℕ)
-reasons =
-    (bytes "$timescale ns ", 1)
-    ∷ (bytes "#8b ", 2)
-    ∷ (bytes "#+ ", 2)
-    ∷ (bytes "#-1 ", 2)
-    ∷ (bytes "#18446744073709551615b ", 2)
-    ∷ (bytes "#18446744073709551616 ", 3)
-    ∷ (bytes "#18446744073709551616b ", 3)
-    ∷ (bytes "$var wire 8b ", 2)
-    ∷ (bytes "$var wire 4294967296 ", 3)
-    ∷ (bytes "$var wire 1 ! a [-2147483649] ", 0)
-    ∷ []
-
--- that number, as the index reads it
-abbrev pub TooSmall : Type 0
-TooSmall = parse_signed (bytes "-2147483649") ≡ Signed.Refused IntError.TooSmall

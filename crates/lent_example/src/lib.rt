@@ -1,5 +1,7 @@
 // How the lent forms are used: a state that two calls share, and rows that a call fills. The parameters of these functions are plain, so
 // that whoever calls them needs no walk by hand.
+#![tactic(auto)]
+
 ghost use Rattle.std.specs.Prelude.{◌≡◌, get_or};
 ghost use Rattle.lent_rows.specs.Rows.{header_in, placed};
 ghost use Rattle.lent_example.specs.Uses.{Two, no_row, no_rows};

@@ -1,4 +1,6 @@
 // The header's rows as a lent slice of structs, filled in file order: a thin outer call over the reading into a flat table.
+#![tactic(auto)]
+
 ghost use Rattle.std.specs.Prelude.{◌≡◌, length};
 ghost use Rattle.rows.specs.Rows.{row_at, filled};
 ghost use Rattle.header.specs.Header.{answer_of};
@@ -11,7 +13,7 @@ use text::Text;
 use token::Cursor;
 
 // What stands in a row; nothing in one that was never filled.
-#[derive(Drop)]
+#[derive(Clone, Copy)]
 pub enum ScopeItem {
     Scope(ScopeType, Text),
     Var(Var),
@@ -20,7 +22,7 @@ pub enum ScopeItem {
 }
 
 // A row of a header: the scope that it stands in, and what it is.
-#[derive(Drop)]
+#[derive(Clone, Copy)]
 pub struct HeaderRow {
     pub parent: Parent,
     pub item: ScopeItem,

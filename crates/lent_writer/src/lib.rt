@@ -1,4 +1,6 @@
 // The writer's state lent: one thin function over the by-value call that writes a command.
+#![tactic(auto)]
+
 ghost use Rattle.std.specs.Prelude.{◌≡◌};
 ghost use Rattle.write.specs.Call.{call};
 ghost use Rattle.lent_writer.specs.Lent.{lent_answer, lent_state, lent_step};
@@ -7,14 +9,14 @@ use command::{Command, Refusal};
 use write::{Writer, Written};
 
 // How many bytes a command took at the start of the output, or why it was refused.
-#[derive(Drop)]
+#[derive(Clone, Copy)]
 pub enum Wrote {
     Bytes(usize),
     Refused(Refusal),
 }
 
 // The state after a command beside what it answers.
-#[derive(Drop)]
+#[derive(Clone, Copy)]
 struct Stepped {
     state: Writer,
     answer: Wrote,

@@ -1,4 +1,4 @@
--- The lines that the programs print, and the limits that all keep.
+-- The lines that the programs print, and the limits that both keep.
 use Rattle.std.specs.Prelude.{ℕ, zero, suc, ◌+◌, ◌-◌, cond, List, [], ◌∷◌, ◌++◌, leb, length, drop}
 use Rattle.emit.specs.Put.{concat}
 use Rattle.change.specs.Rows.{change_at}
@@ -40,10 +40,6 @@ change_line s name width Change.None = []
 
 abbrev pub full_line : List ℕ → List ℕ
 full_line name = concat (name ∷ bytes " full\n" ∷ [])
-
--- a dump that strict mode takes
-abbrev pub passed_line : List ℕ
-passed_line = bytes "passed\n"
 
 abbrev pub refused_line : ℕ → ℕ → List ℕ
 refused_line number line = concat (bytes "refused " ∷ decimal_of number ∷ bytes " at " ∷ decimal_of line ∷ bytes "\n" ∷ [])

@@ -1,12 +1,14 @@
 // The lines that the programs print: the changes of a variable, its full listing, a refusal, an input over the limit. A line is put whole
-// where it has room, else not at all. And the limits that all programs keep.
+// where it has room, else not at all. And the limits that both programs keep.
+#![tactic(auto)]
+
 ghost use Rattle.std.specs.Prelude.{◌≡◌, [], ◌∷◌, ◌++◌, map, ◌+◌, ◌≤◌, leb, length};
 ghost use Rattle.emit.specs.Put.{concat, stored};
 ghost use Rattle.text.specs.Bytes.{bytes};
 ghost use Rattle.text.specs.Texts.{spelled, put_answer, put_bytes};
 ghost use Rattle.value.specs.Values.{lower, filled_with};
-ghost use Rattle.widen.specs.Widen.{fill_of, widened};
-ghost use Rattle.lines.specs.Lines.{time_text, change_line, full_line, passed_line, refused_line, long_line, put as put_lines, answer_of, filled};
+ghost use Rattle.value.specs.declared.Value.{Value};
+ghost use Rattle.lines.specs.Lines.{time_text, change_line, full_line, refused_line, long_line, put as put_lines, answer_of, filled};
 
 use listing::{Change, ChangeKind, Since};
 use text::{Placed, Spelled};
@@ -17,7 +19,7 @@ pub const TAKEN: usize = 65536;
 pub const HEADER_ROWS: usize = 256;
 
 // The next row to print, and how many bytes the lines before it have.
-#[derive(Drop)]
+#[derive(Clone, Copy)]
 pub struct Lines {
     pub next: usize,
     pub count: usize,
@@ -73,8 +75,22 @@ pub fn put_change(input: &[u8], name: &[u8], width: u32, change: Change, out: &m
             let time = text::front(&time, t.len);
             let digits = text::front(&digits, l.len);
             match kind {
-                ChangeKind::Scalar => lay_wide(name, time, digits, 1, value, out),
-                ChangeKind::Vector => lay_wide(name, time, digits, width, value, out),
+                ChangeKind::Scalar => lay_wide(
+                    name,
+                    time,
+                    digits,
+                    widen::missing(1, value.len()),
+                    value,
+                    out,
+                ),
+                ChangeKind::Vector => lay_wide(
+                    name,
+                    time,
+                    digits,
+                    widen::missing(width, value.len()),
+                    value,
+                    out,
+                ),
                 ChangeKind::Real => lay_text(name, time, digits, value, out),
                 ChangeKind::String => lay_text(name, time, digits, value, out),
             }
@@ -96,13 +112,6 @@ pub fn put_full(name: &[u8], out: &mut [u8]) -> Placed
     ensures { (result ≡ put_answer (full_line name.now) out.old) × (out.new ≡ put_bytes (full_line name.now) out.old) }
 {
     emit::emit(name, b" full\n", b"", b"", b"", out)
-}
-
-// `passed`.
-pub fn put_passed(out: &mut [u8]) -> Placed
-    ensures { (result ≡ put_answer passed_line out.old) × (out.new ≡ put_bytes passed_line out.old) }
-{
-    text::put_text(b"passed\n", out)
 }
 
 // `refused NUMBER at LINE`.
@@ -148,49 +157,63 @@ fn lay_text(name: &[u8], time: &[u8], line: &[u8], value: &[u8], out: &mut [u8])
     Placed::Count(emit::put_five(out, n, b" ", value, b"\n", b"", b""))
 }
 
-// A line whose value is widened.
+// A line whose value is in lower case after so many zeros.
 fn lay_wide(
     name: &[u8],
     time: &[u8],
     line: &[u8],
-    width: u32,
+    zeros: usize,
     value: &[u8],
     out: &mut [u8],
 ) -> Placed
-    ensures { (result ≡ put_answer (concat (name.now ∷ bytes " " ∷ time.now ∷ bytes " " ∷ line.now ∷ bytes " " ∷ widened value.now width ∷ bytes "\n" ∷ [])) out.old) × (out.new ≡ put_bytes (concat (name.now ∷ bytes " " ∷ time.now ∷ bytes " " ∷ line.now ∷ bytes " " ∷ widened value.now width ∷ bytes "\n" ∷ [])) out.old) }
+    ensures { (result ≡ put_answer (concat (name.now ∷ bytes " " ∷ time.now ∷ bytes " " ∷ line.now ∷ bytes " " ∷ (filled_with Value.V0 zeros ++ map lower value.now) ∷ bytes "\n" ∷ [])) out.old) × (out.new ≡ put_bytes (concat (name.now ∷ bytes " " ∷ time.now ∷ bytes " " ∷ line.now ∷ bytes " " ∷ (filled_with Value.V0 zeros ++ map lower value.now) ∷ bytes "\n" ∷ [])) out.old) }
 {
-    let lack = widen::missing(width, value.len());
     if !has_room(
         out.len(),
         name.len(),
         time.len(),
         line.len(),
-        lack,
+        zeros,
         value.len(),
     ) {
         return Placed::NoRoom;
     }
     let n = emit::put_five(out, 0, name, b" ", time, b" ", line);
-    Placed::Count(put_wide(out, n, lack, value))
+    Placed::Count(put_wide(out, n, zeros, value))
 }
 
-// A space, the fill of so many values, the values in lower case, and the newline.
-fn put_wide(out: &mut [u8], at: usize, lack: usize, value: &[u8]) -> usize
-    requires { at + (2 + lack + length value.now) ≤ length out.old }
-    ensures { (result ≡ at + length (concat (bytes " " ∷ (filled_with (fill_of value.now) lack ++ map lower value.now) ∷ bytes "\n" ∷ []))) × (out.new ≡ stored out.old at (concat (bytes " " ∷ (filled_with (fill_of value.now) lack ++ map lower value.now) ∷ bytes "\n" ∷ []))) }
+// A space, so many zeros, the values in lower case, and the newline.
+fn put_wide(out: &mut [u8], at: usize, zeros: usize, value: &[u8]) -> usize
+    requires { at + (2 + zeros + length value.now) ≤ length out.old }
+    ensures { (result ≡ at + length (concat (bytes " " ∷ (filled_with Value.V0 zeros ++ map lower value.now) ∷ bytes "\n" ∷ []))) × (out.new ≡ stored out.old at (concat (bytes " " ∷ (filled_with Value.V0 zeros ++ map lower value.now) ∷ bytes "\n" ∷ []))) }
 {
     let n = emit::put(out, at, b" ");
-    value::vector::filled(widen::fill(value), lack, &mut out[n..]);
-    let n = emit::put_lower(out, n + lack, value);
+    let n = put_zeros(out, n, zeros);
+    let n = emit::put_lower(out, n, value);
     emit::put(out, n, b"\n")
 }
 
 // Whether a line has room: its five parts, three spaces and the newline.
-fn has_room(room: usize, name: usize, time: usize, line: usize, lack: usize, value: usize) -> bool
-    ensures { result ≡ leb (4 + (name + time + line + lack + value)) room }
+fn has_room(room: usize, name: usize, time: usize, line: usize, zeros: usize, value: usize) -> bool
+    ensures { result ≡ leb (4 + (name + time + line + zeros + value)) room }
 {
     if room < 4 {
         return false;
     }
-    emit::fits(room - 4, name, time, line, lack, value)
+    emit::fits(room - 4, name, time, line, zeros, value)
+}
+
+// Puts so many zeros into `out` from `at` on, and answers the place after them.
+fn put_zeros(out: &mut [u8], at: usize, zeros: usize) -> usize
+    requires { at + zeros ≤ length out.old }
+    ensures { (result ≡ at + length (filled_with Value.V0 zeros)) × (out.new ≡ stored out.old at (filled_with Value.V0 zeros)) }
+{
+    let mut n = at;
+    let mut i: usize = 0;
+    while i < zeros {
+        out[n] = b'0';
+        n += 1;
+        i += 1;
+    }
+    n
 }

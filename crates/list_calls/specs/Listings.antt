@@ -4,7 +4,7 @@ use Rattle.std.specs.Prelude.{ℕ, List, length}
 use Rattle.change.specs.Rows.{since_words, since_in, filled}
 use Rattle.change.specs.declared.Since.{Since}
 use Rattle.change.specs.declared.SinceRead.{SinceRead}
-use Rattle.command.specs.Refusals.{number_of, reason_of}
+use Rattle.command.specs.Refusals.{number_of}
 use Rattle.listing.specs.Listing.{Outcome, list_on_of}
 use Rattle.listing.specs.declared.Ended.{Ended}
 use Rattle.token.specs.declared.Cursor.{Cursor}
@@ -23,16 +23,11 @@ abbrev pub status_of : Ended → ℕ
 status_of Ended.Whole = 0
 status_of (Ended.Refused e line) = number_of e
 
--- the reason, where the answer is 9
-abbrev pub list_reason : Ended → ℕ
-list_reason Ended.Whole = 0
-list_reason (Ended.Refused e line) = reason_of e
-
 abbrev pub listed : List ℕ → Outcome → Left
 listed t o =
     record {
       status = status_of o.ended;
-      cursor = cursor_words o.cursor (list_reason o.ended);
+      cursor = cursor_words o.cursor;
       since = since_words o.since;
       table = filled o.rows t;
       count = length o.rows;

@@ -1,8 +1,10 @@
 // The listing calls of the library for C and Rust, over numbers and lent arrays alone. Each answers OK or the number of a refusal. The
 // cursor and the last time travel as words that the caller keeps (crates vcd_state and change); words that are none are refused by
 // BAD_PLACE with nothing changed.
+#![tactic(auto)]
+
 ghost use Rattle.std.specs.Prelude.{◌≡◌};
-ghost use Rattle.list_calls.specs.Listings.{list_call, list_on_call, status_of, list_reason};
+ghost use Rattle.list_calls.specs.Listings.{list_call, list_on_call, status_of};
 
 use change::SinceRead;
 use idcode::IdCode;
@@ -48,7 +50,7 @@ pub fn list_on(
                 let d = a.cursor;
                 let last = a.since;
                 let ended = a.ended;
-                vcd_state::put_cursor(cursor, d, reason(ended));
+                vcd_state::put_cursor(cursor, d);
                 change::put_since(since, last);
                 *count = a.count as u64;
                 status(ended)
@@ -57,20 +59,11 @@ pub fn list_on(
     }
 }
 
-pub fn status(e: Ended) -> u64
+fn status(e: Ended) -> u64
     ensures { result ≡ status_of e }
 {
     match e {
         Ended::Whole => OK,
         Ended::Refused(r, _) => r.number(),
-    }
-}
-
-pub fn reason(e: Ended) -> u64
-    ensures { result ≡ list_reason e }
-{
-    match e {
-        Ended::Whole => 0,
-        Ended::Refused(r, _) => r.reason(),
     }
 }

@@ -10,7 +10,6 @@ use lib.ListN.{length, take, drop, length-append, length-take, length-drop, leng
 use Rattle.command.specs.Refusals.{number_of}
 use Rattle.command.specs.declared.Command.{Command}
 use Rattle.command.specs.declared.Refusal.{Refusal}
-use Rattle.command.proofs.Refusals.{number-range}
 use Rattle.header.specs.Header.{Outcome as Heading, Step, on, whole, off, move, follow, read_rows, nothing}
 use Rattle.header.specs.declared.Ended.{Ended as HeaderEnded}
 use Rattle.header.specs.declared.Header.{Header}
@@ -65,6 +64,33 @@ unfolding commands
 sound s c v = sound-on _ s c v
 
 -- ---- numbers and texts
+number_small : (e : Refusal) → number_of e ≤ 25
+number_small Refusal.UnexpectedEof = omega arith
+number_small Refusal.InvalidUtf8 = omega arith
+number_small Refusal.UnexpectedCharacter = omega arith
+number_small Refusal.TokenTooLong = omega arith
+number_small Refusal.ExpectedEndCommand = omega arith
+number_small Refusal.UnmatchedEnd = omega arith
+number_small Refusal.UnknownCommand = omega arith
+number_small Refusal.UnexpectedHeaderCommand = omega arith
+number_small Refusal.ParseIntError = omega arith
+number_small Refusal.ParseFloatError = omega arith
+number_small Refusal.InvalidTimescaleUnit = omega arith
+number_small Refusal.InvalidScopeType = omega arith
+number_small Refusal.InvalidVarType = omega arith
+number_small Refusal.InvalidReferenceIndex = omega arith
+number_small Refusal.InvalidValueChar = omega arith
+number_small Refusal.IdEmpty = omega arith
+number_small Refusal.IdInvalidChars = omega arith
+number_small Refusal.IdTooLong = omega arith
+number_small Refusal.TooDeep = omega arith
+number_small Refusal.TableFull = omega arith
+number_small Refusal.NoRoom = omega arith
+number_small Refusal.NotWritable = omega arith
+number_small Refusal.BadTable = omega arith
+number_small Refusal.ListFull = omega arith
+number_small Refusal.BadPlace = omega arith
+
 line-short : (n : ℕ) → n ≤ 65537 → length (decimal_of n) ≤ 5
 line-short n h = short 4 n (omega arith)
 
@@ -74,7 +100,7 @@ part-short s t = omega (arith, length-take t.len (drop t.start s), length-drop t
 
 refused-room : (e : Refusal) (n : ℕ) → n ≤ 65537 → length (refused_line (number_of e) n) ≤ lent
 refused-room e n h =
-    simp length-append (omega (arith, short 1 (number_of e) (omega (arith, number-range e)), line-short n h))
+    simp length-append (omega (arith, short 1 (number_of e) (omega (arith, number_small e)), line-short n h))
 
 full-room : (name : List ℕ) → length name ≤ 65536 → length (full_line name) ≤ lent
 full-room name h = simp length-append (omega arith)

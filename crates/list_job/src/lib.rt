@@ -1,5 +1,7 @@
 // What the listing program prints, a turn at a time: each turn puts whole lines at the start of a lent buffer and answers the state that
 // the next one starts from. The rows of the header and of a variable's listing stay in two lent tables between turns.
+#![tactic(auto)]
+
 ghost use Rattle.std.specs.Prelude.{◌≡◌, ◌&&◌, length};
 ghost use Rattle.list_job.specs.Whole.{met_lines, end_lines, met_then, long_lines, is_full, is_whole};
 ghost use Rattle.list_job.specs.Turns.{Does, Begins, Lists, Prints, Puts, count_of, is_finished, ended_whole, turn_of, row_turn, met_row};
@@ -22,14 +24,14 @@ pub const CHANGE_WORDS: usize = CHANGES * listing::WORDS;
 pub const ROOM: usize = 131136;
 
 // A refusal of reading, with its line; the listings of one dump meet the same one.
-#[derive(Drop)]
+#[derive(Clone, Copy)]
 pub enum Met {
     Nothing,
     Refused(Refusal, u64),
 }
 
 // Where the header ended, how many rows it has, the next of them, what was met so far, and whether all listings so far ended whole.
-#[derive(Drop)]
+#[derive(Clone, Copy)]
 pub struct Place {
     pub cursor: Cursor,
     pub count: usize,
@@ -39,7 +41,7 @@ pub struct Place {
 }
 
 // A variable whose changes are printed: the next of its listing's rows, how many there are, and how the listing ended.
-#[derive(Drop)]
+#[derive(Clone, Copy)]
 pub struct Printing {
     pub name: Text,
     pub width: u32,
@@ -49,7 +51,7 @@ pub struct Printing {
 }
 
 // Finished tells whether the dump was whole: nothing of it was refused, and no listing was full.
-#[derive(Drop)]
+#[derive(Clone, Copy)]
 pub enum State {
     Begin,
     Row(Place),
@@ -58,7 +60,7 @@ pub enum State {
 }
 
 // How many bytes a turn put, and the state then.
-#[derive(Drop)]
+#[derive(Clone, Copy)]
 pub struct Turn {
     pub count: usize,
     pub next: State,

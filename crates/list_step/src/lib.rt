@@ -1,4 +1,6 @@
 // One step of a listing: what the next command is to the listing of a code. A part of the listing's loop.
+#![tactic(auto)]
+
 ghost use Rattle.std.specs.Prelude.{◌≡◌, length, ◌≤◌};
 ghost use Rattle.change.specs.declared.ChangeKind.{ChangeKind};
 ghost use Rattle.fast.specs.Fast.{Hits};
@@ -16,7 +18,7 @@ use text::Text;
 use token::Cursor;
 
 // What the listing of a code sees next, with the cursor after it: a time, a change of the code, another command; or how reading ends.
-#[derive(Drop)]
+#[derive(Clone, Copy)]
 pub enum Step {
     Time(Cursor, Time),
     Change(Cursor, ChangeKind, Text),
@@ -53,14 +55,19 @@ pub fn step_fast(input: &[u8], c: Cursor, code: IdCode) -> Step
 {
     let at = c.place;
     match fast_command(input, at) {
-        Fast::Time(t, end) => Step::Time(token::word_read(c, end, input[end]), t),
+        Fast::Time(t, end) => Step::Time(token::word_read(c, end, input[end]), Time(t)),
         Fast::Scalar(i, end) => step_of(
-            seen_change(i, code, ChangeKind::Scalar, Text { start: at, len: 1 }),
+            seen_change(
+                IdCode(i),
+                code,
+                ChangeKind::Scalar,
+                Text { start: at, len: 1 },
+            ),
             token::word_read(c, end, input[end]),
         ),
         Fast::Vector(i, stop, end) => step_of(
             seen_change(
-                i,
+                IdCode(i),
                 code,
                 ChangeKind::Vector,
                 Text {
@@ -91,15 +98,7 @@ fn step_slow(input: &[u8], c: Cursor, code: IdCode) -> Step
     requires { Valid input.now c }
     ensures { result ≡ step_from input.now code c (next_from input.now c) }
 {
-    step_next(input, c, parser::next_command(input, c), code)
-}
-
-// The step where reading from c gave this answer.
-pub fn step_next(input: &[u8], c: Cursor, x: Next, code: IdCode) -> Step
-    requires { Valid input.now c }
-    ensures { result ≡ step_from input.now code c x }
-{
-    match x {
+    match parser::next_command(input, c) {
         Next::Command(k, d) => step_of(seen_command(input, c, k, code), d),
         Next::Refused(e, line, d) => Step::Refused(d, e, line),
         Next::Done(d) => Step::Done(d),
@@ -117,7 +116,7 @@ fn step_of(t: Seen, d: Cursor) -> Step
 }
 
 // What a command is to the listing of a code: a time, a change of the code, or nothing.
-#[derive(Drop)]
+#[derive(Clone, Copy)]
 pub enum Seen {
     Time(Time),
     Change(ChangeKind, Text),

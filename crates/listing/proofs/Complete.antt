@@ -24,7 +24,7 @@ use Rattle.token.specs.declared.Cursor.{Cursor}
 use Rattle.list_step.specs.Step.{Role, time, change, other, role_of}
 use Rattle.listing.specs.Listing.{Entry, entries, since_after, stop_of, last_of, time_of, rows_in, cut, list_in}
 use Rattle.listing.specs.declared.Ended.{Ended}
-use Rattle.listing.proofs.Listed.{ahead, read_as, changes-first, stop_step, last_step, time-first, StopsAt, stop-refused, stop-done, rows_join}
+use Rattle.listing.proofs.Listed.{ahead, ahead-first, ahead-refused, ahead-done, stop_step, last_step, time-first, StopsAt, stop-refused, stop-done, rows_join}
 
 pub rows_take : (n : ℕ) (es : List Entry) → rows_in (take n es) ≡ take n (rows_in es)
 rows_take zero es = refl
@@ -86,7 +86,7 @@ way-ahead s i c e t (x ∷ xs) w =
     let d : Cursor = w.1 in
     let r = way-ahead s i d e (since_after t x) xs w.4 in
     let here : List Entry = entries i c t d.line x in
-    let first : ahead s i c t ≡ here ++ ahead s i d (since_after t x) = rw w.3 at (changes-first s c d w.0 _ _ (read_as s c _ w.2) i t) in (
+    let first : ahead s i c t ≡ here ++ ahead s i d (since_after t x) = rw w.3 at (ahead-first s c d w.0 w.2 i t) in (
       here ++ r.0,
       first ∙ rw r.1 (sym (append_assoc here r.0 (ahead s i e (last_time (since_after t x) xs)))),
       length-append here r.0 ∙ rw (entries-count i c t d.line x, r.2),
@@ -102,9 +102,8 @@ way-stop s c e t [] w =
 way-stop s c e t (x ∷ xs) w =
     let d : Cursor = w.1 in
     let r = way-stop s d e (since_after t x) xs w.4 in
-    let e = read_as s c _ w.2 in
-    let first : time_of s c t (commands s c) ≡ time_of s d (since_after t x) (commands s d) = rw w.3 at (time-first s c d w.0 _ _ e t) in
-    (stop_step s c d w.0 _ _ e ∙ r.0, last_step s c d w.0 _ _ e ∙ r.1, first ∙ r.2)
+    let first : time_of s c t (commands s c) ≡ time_of s d (since_after t x) (commands s d) = rw w.3 at (time-first s c d w.0 w.2 t) in
+    (stop_step s c d w.0 w.2 ∙ r.0, last_step s c d w.0 w.2 ∙ r.1, first ∙ r.2)
 
 module _ (s : List ℕ) (i : IdCode) (c d : Cursor) (t : Since) (xs : List Role) (w : Way s c xs d) where
   abbrev since : Since
@@ -121,7 +120,7 @@ module _ (s : List ℕ) (i : IdCode) (c d : Cursor) (t : Since) (xs : List Role)
     split : (made : List Entry) × (ahead s i c t ≡ made ++ (one ∷ ahead s i e since)) × (length made ≡ count_of i xs)
     split =
         let a = way-ahead s i c d t xs w in
-        let f : ahead s i d since ≡ one ∷ ahead s i e since = rw (r, eq-eqb i.0 i.0 refl) at (changes-first s d e k _ _ (read_as s d _ q) i since) in
+        let f : ahead s i d since ≡ one ∷ ahead s i e since = rw (r, eq-eqb i.0 i.0 refl) at (ahead-first s d e k q i since) in
         (a.0, a.1 ∙ ap (λ (x : List Entry). a.0 ++ x) f, a.2)
 
     pub each-change : get_or (rows_in (ahead s i c t)) (count_of i xs) Change.None ≡ row
@@ -153,17 +152,17 @@ module _ (s : List ℕ) (i : IdCode) (c d : Cursor) (t : Since) (xs : List Role)
         × ((list_in s c t i room).cursor ≡ f)
         × ((list_in s c t i room).since ≡ since)
 
-    ends : (e : Ended) (f : Cursor) → StopsAt s i d f since (commands s d) e → Ends e f
-    ends e f x =
+    ends : (e : Ended) (f : Cursor) → ahead s i d since ≡ [] → StopsAt s d f since e → Ends e f
+    ends e f a x =
         let g = way-ahead s i c d t xs w in
-        let same : ahead s i c t ≡ g.0 = g.1 ∙ rw x.none (append-nil g.0) in
+        let same : ahead s i c t ≡ g.0 = g.1 ∙ rw a (append-nil g.0) in
         let n : length (ahead s i c t) ≡ count_of i xs = rw same g.2 in
         let m : length (rows_in (ahead s i c t)) ≡ length (ahead s i c t) = length-map (ahead s i c t) (λ (y : Entry). y.row) in
         let z = way-stop s c d t xs w in
-        rw (complete s c t i room (omega arith)) (m ∙ n, z.0 ∙ x.stops, z.1 ∙ x.last, z.2 ∙ x.time)
+        rw (complete s c t i room (omega arith)) (m ∙ n, z.0 ∙ x.0, z.1 ∙ x.1, z.2 ∙ x.2)
 
     pub ends-refused : (e : Refusal) (n : ℕ) (f : Cursor) → next_from s d ≡ Next.Refused e n f → Ends (Ended.Refused e n) f
-    ends-refused e n f q = ends _ _ (stop-refused s i d f since _ e n (read_as s d _ q))
+    ends-refused e n f q = ends _ _ (ahead-refused s i d f since e n q) (stop-refused s d f since e n q)
 
     pub ends-whole : (f : Cursor) → next_from s d ≡ Next.Done f → Ends Ended.Whole f
-    ends-whole f q = ends _ _ (stop-done s i d f since _ (read_as s d _ q))
+    ends-whole f q = ends _ _ (ahead-done s i d f since q) (stop-done s d f since q)

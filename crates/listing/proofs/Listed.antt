@@ -10,7 +10,7 @@ use Rattle.command.specs.declared.Command.{Command}
 use Rattle.command.specs.declared.Refusal.{Refusal}
 use Rattle.command.specs.declared.Time.{Time}
 use Rattle.idcode.specs.declared.IdCode.{IdCode}
-use Rattle.parser.specs.All.{Commands, command, stop, finish, followed, commands}
+use Rattle.parser.specs.All.{command, followed, commands}
 use Rattle.parser.specs.Next.{next_from}
 use Rattle.parser_part.specs.declared.Next.{Next}
 use Rattle.parser.proofs.Ahead.{command-past}
@@ -20,7 +20,7 @@ use Rattle.text.specs.declared.Text.{Text}
 use Rattle.token.specs.Read.{Valid}
 use Rattle.token.specs.declared.Cursor.{Cursor}
 use Rattle.list_step.specs.Step.{Role, time, change, other, role_of, of_code}
-use Rattle.listing.specs.Listing.{Entry, entries, since_after, changes, stop_of, last_of, time_of, Outcome, rows_in, list_over, answer_of, Passes}
+use Rattle.listing.specs.Listing.{Entry, entries, since_after, changes, stop_of, last_of, time_of, Outcome, rows_in, list_in, answer_of, Passes}
 use Rattle.change.specs.Rows.{change_words, words_of, put, filled}
 use Rattle.listing.specs.declared.Ended.{Ended}
 use Rattle.list_step.specs.declared.Seen.{Seen}
@@ -31,7 +31,7 @@ use Rattle.list_step.proofs.Roles.{Read}
 use Rattle.change.proofs.Table.{filled-length, put_next}
 
 -- ---- what a command gives, by what it is to the listing of a code
-abbrev pub gives : Cursor → Since → ℕ → Seen → List Entry
+abbrev gives : Cursor → Since → ℕ → Seen → List Entry
 gives c t n (Seen.Time u) = []
 gives c t n (Seen.Change k v) = record { row = Change.Is t n k v; from = c; since = t } ∷ []
 gives c t n Seen.Other = []
@@ -46,84 +46,84 @@ entries-are i c t n (time u) = refl
 entries-are i c t n (change j k v) = by-test (eqb j.0 i.0) (λ e. rw e) (λ e. rw e)
 entries-are i c t n other = refl
 
-pub later-is : (i : IdCode) (t : Since) (x : Role) → since_after t x ≡ later t (of_code i x)
+later-is : (i : IdCode) (t : Since) (x : Role) → since_after t x ≡ later t (of_code i x)
 later-is i t (time u) = refl
 later-is i t (change j k v) = by-test (eqb j.0 i.0) (λ e. rw e) (λ e. rw e)
 later-is i t other = refl
 
--- ---- the entries of commands, one command at a time
-module _ (s : List ℕ) (c d : Cursor) (k : Command) (cs ds : Commands) (e : cs ≡ command k d ds) where
-  pub changes-first : (i : IdCode) (t : Since)
-      → changes s i c t cs ≡ entries i c t d.line (role_of s c k) ++ changes s i d (since_after t (role_of s c k)) ds
-  unfolding changes
-  changes-first i t = ap (changes s i c t) e
-
-  changes-step : (i : IdCode) (t : Since) (r : Seen) → of_code i (role_of s c k) ≡ r
-      → changes s i c t cs ≡ gives c t d.line r ++ changes s i d (later t r) ds
-  changes-step i t r q = changes-first i t ∙ rw (entries-are i c t d.line (role_of s c k), later-is i t (role_of s c k), q)
-
-  pub time-first : (t : Since) → time_of s c t cs ≡ time_of s d (since_after t (role_of s c k)) ds
-  unfolding time_of
-  time-first t = ap (time_of s c t) e
-
-  time-step : (i : IdCode) (t : Since) (r : Seen) → of_code i (role_of s c k) ≡ r → time_of s c t cs ≡ time_of s d (later t r) ds
-  time-step i t r q = time-first t ∙ rw (later-is i t (role_of s c k), q)
-
-  pub stop_step : stop_of cs ≡ stop_of ds
-  unfolding stop_of
-  stop_step = ap stop_of e
-
-  pub last_step : last_of cs ≡ last_of ds
-  unfolding last_of
-  last_step = ap last_of e
-
--- reading that stops there has nothing ahead
-module _ (s : List ℕ) (i : IdCode) (c d : Cursor) (t : Since) (cs : Commands) where
-  -- how it stops, where, and the last time then
-  pub record StopsAt (e : Ended) : Type 0 where
-    pub none : changes s i c t cs ≡ []
-    pub stops : stop_of cs ≡ e
-    pub last : last_of cs ≡ d
-    pub time : time_of s c t cs ≡ t
-
-  pub stop-refused : (e : Refusal) (n : ℕ) → cs ≡ stop e n d → StopsAt (Ended.Refused e n)
-  unfolding changes stop_of last_of time_of
-  stop-refused e n r = record { none = ap (changes s i c t) r; stops = ap stop_of r; last = ap last_of r; time = ap (time_of s c t) r }
-
-  pub stop-done : cs ≡ finish d → StopsAt Ended.Whole
-  unfolding changes stop_of last_of time_of
-  stop-done r = record { none = ap (changes s i c t) r; stops = ap stop_of r; last = ap last_of r; time = ap (time_of s c t) r }
-
--- ---- the commands from a cursor on, by the next answer
+-- ---- the entries from a cursor on, one command at a time
 abbrev pub ahead : List ℕ → IdCode → Cursor → Since → List Entry
 ahead s i c t = changes s i c t (commands s c)
 
-pub read_as : (s : List ℕ) (c : Cursor) (x : Next) → next_from s c ≡ x → commands s c ≡ followed (commands s) x
+read_as : (s : List ℕ) (c : Cursor) (x : Next) → next_from s c ≡ x → commands s c ≡ followed (commands s) x
 read_as s c x e = commands-step s c ∙ ap (followed (commands s)) e
 
-pub given : (s : List ℕ) (i : IdCode) (c d : Cursor) (r : Seen) (h : Read s i c d r) → commands s c ≡ command h.command d (commands s d)
-given s i c d r h = read_as s c _ h.next
+module _ (s : List ℕ) (c d : Cursor) (k : Command) (e : next_from s c ≡ Next.Command k d) where
+  pub ahead-first : (i : IdCode) (t : Since) → ahead s i c t ≡ entries i c t d.line (role_of s c k) ++ ahead s i d (since_after t (role_of s c k))
+  unfolding changes
+  ahead-first i t = ap (changes s i c t) (read_as s c _ e)
+
+  ahead_step : (i : IdCode) (t : Since) (r : Seen) → of_code i (role_of s c k) ≡ r
+      → ahead s i c t ≡ gives c t d.line r ++ ahead s i d (later t r)
+  ahead_step i t r q = ahead-first i t ∙ rw (entries-are i c t d.line (role_of s c k), later-is i t (role_of s c k), q)
+
+  pub time-first : (t : Since) → time_of s c t (commands s c) ≡ time_of s d (since_after t (role_of s c k)) (commands s d)
+  unfolding time_of
+  time-first t = ap (time_of s c t) (read_as s c _ e)
+
+  time-step : (i : IdCode) (t : Since) (r : Seen) → of_code i (role_of s c k) ≡ r
+      → time_of s c t (commands s c) ≡ time_of s d (later t r) (commands s d)
+  time-step i t r q = time-first t ∙ rw (later-is i t (role_of s c k), q)
+
+  pub stop_step : stop_of (commands s c) ≡ stop_of (commands s d)
+  unfolding stop_of
+  stop_step = ap stop_of (read_as s c _ e)
+
+  pub last_step : last_of (commands s c) ≡ last_of (commands s d)
+  unfolding last_of
+  last_step = ap last_of (read_as s c _ e)
+
+-- reading that stops there has nothing ahead
+module _ (s : List ℕ) (c d : Cursor) (t : Since) where
+  -- how it stops, where, and the last time then
+  abbrev pub StopsAt : Ended → Type 0
+  StopsAt e = (stop_of (commands s c) ≡ e) × (last_of (commands s c) ≡ d) × (time_of s c t (commands s c) ≡ t)
+
+  pub stop-refused : (e : Refusal) (n : ℕ) → next_from s c ≡ Next.Refused e n d → StopsAt (Ended.Refused e n)
+  unfolding stop_of last_of time_of
+  stop-refused e n q = let r = read_as s c _ q in (ap stop_of r, ap last_of r, ap (time_of s c t) r)
+
+  pub stop-done : next_from s c ≡ Next.Done d → StopsAt Ended.Whole
+  unfolding stop_of last_of time_of
+  stop-done q = let r = read_as s c _ q in (ap stop_of r, ap last_of r, ap (time_of s c t) r)
+
+pub ahead-refused : (s : List ℕ) (i : IdCode) (c d : Cursor) (t : Since) (e : Refusal) (n : ℕ) → next_from s c ≡ Next.Refused e n d → ahead s i c t ≡ []
+unfolding changes
+ahead-refused s i c d t e n q = ap (changes s i c t) (read_as s c _ q)
+
+pub ahead-done : (s : List ℕ) (i : IdCode) (c d : Cursor) (t : Since) → next_from s c ≡ Next.Done d → ahead s i c t ≡ []
+unfolding changes
+ahead-done s i c d t q = ap (changes s i c t) (read_as s c _ q)
 
 -- ---- over commands that are no changes of the code: none, one more, and two runs
 module _ (s : List ℕ) (i : IdCode) where
-  pub passes-start : (c : Cursor) (t : Since) (cs : Commands) → Valid s c → Passes s i c t cs c t cs
-  passes-start c t cs v = record { same = refl; stops = refl; last = refl; time = refl; valid = v; past = omega arith }
+  pub passes-start : (c : Cursor) (t : Since) → Valid s c → Passes s i c t c t
+  passes-start c t v = record { same = refl; stops = refl; last = refl; time = refl; valid = v; past = omega arith }
 
-  pub passes-read : (c d : Cursor) (t : Since) (r : Seen) (cs ds : Commands) (h : Read s i c d r) → cs ≡ command h.command d ds
-      → gives c t d.line r ≡ [] → Passes s i c t cs d (later t r) ds
-  passes-read c d t r cs ds h e g =
+  pub passes-read : (c d : Cursor) (t : Since) (r : Seen) → Read s i c d r → gives c t d.line r ≡ [] → Passes s i c t d (later t r)
+  passes-read c d t r h g =
       let f = (command-past s c h.command d h.next).0 in
       record {
-        same = changes-step s c d h.command cs ds e i t r h.tells ∙ rw g;
-        stops = stop_step s c d h.command cs ds e;
-        last = last_step s c d h.command cs ds e;
-        time = time-step s c d h.command cs ds e i t r h.tells;
+        same = ahead_step s c d h.command h.next i t r h.tells ∙ rw g;
+        stops = stop_step s c d h.command h.next;
+        last = last_step s c d h.command h.next;
+        time = time-step s c d h.command h.next i t r h.tells;
         valid = f.valid;
         past = f.ahead;
       }
 
-  pub passes_on : (c d e : Cursor) (t u w : Since) (cs ds es : Commands) → Passes s i c t cs d u ds → Passes s i d u ds e w es → Passes s i c t cs e w es
-  passes_on c d e t u w cs ds es p q =
+  pub passes_on : (c d e : Cursor) (t u w : Since) → Passes s i c t d u → Passes s i d u e w → Passes s i c t e w
+  passes_on c d e t u w p q =
       record {
         same = p.same ∙ q.same;
         stops = p.stops ∙ q.stops;
@@ -133,31 +133,28 @@ module _ (s : List ℕ) (i : IdCode) where
         past = omega (arith, p.past, q.past);
       }
 
--- ---- the listing of the code i of the commands cs₀ from c₀, where u₀ was the last time, into the table t₀; the cursor is c, n rows are
--- made, the last time is t, and the commands cs are left
-pub record Listed (s : List ℕ) (i : IdCode) (c₀ : Cursor) (u₀ : Since) (cs₀ : Commands) (t₀ table : List ℕ) (c : Cursor) (n : ℕ) (t : Since) (cs : Commands) : Type 0 where
+-- ---- the listing of the code i from c₀, where u₀ was the last time, into the table t₀; the cursor is c, n rows are made, the last time is t
+pub record Listed (s : List ℕ) (i : IdCode) (c₀ : Cursor) (u₀ : Since) (t₀ table : List ℕ) (c : Cursor) (n : ℕ) (t : Since) : Type 0 where
   pub made : List Entry
-  pub whole : changes s i c₀ u₀ cs₀ ≡ made ++ changes s i c t cs
+  pub whole : ahead s i c₀ u₀ ≡ made ++ ahead s i c t
   pub count : length made ≡ n
   pub room : n ≤ length t₀ / 6
   pub stored : table ≡ filled (rows_in made) t₀
-  pub stops : stop_of cs₀ ≡ stop_of cs
-  pub lasts : last_of cs₀ ≡ last_of cs
-  pub times : time_of s c₀ u₀ cs₀ ≡ time_of s c t cs
+  pub stops : stop_of (commands s c₀) ≡ stop_of (commands s c)
+  pub lasts : last_of (commands s c₀) ≡ last_of (commands s c)
+  pub times : time_of s c₀ u₀ (commands s c₀) ≡ time_of s c t (commands s c)
 
-pub listed_start : (s : List ℕ) (i : IdCode) (c : Cursor) (t : Since) (cs : Commands) (t₀ : List ℕ) → Listed s i c t cs t₀ t₀ c 0 t cs
+pub listed_start : (s : List ℕ) (i : IdCode) (c : Cursor) (t : Since) (t₀ : List ℕ) → Listed s i c t t₀ t₀ c 0 t
 unfolding words_of
-listed_start s i c t cs t₀ =
+listed_start s i c t t₀ =
     record { made = []; whole = refl; count = refl; room = omega arith; stored = refl; stops = refl; lasts = refl; times = refl }
 
 pub rows_join : (x y : List Entry) → rows_in (x ++ y) ≡ rows_in x ++ rows_in y
 rows_join x y = map-append (λ (e : Entry). e.row) x y
 
-module _
-    (s : List ℕ) (i : IdCode) (c₀ : Cursor) (u₀ : Since) (cs₀ : Commands) (t₀ table : List ℕ) (c : Cursor) (n : ℕ) (t : Since) (cs : Commands)
-    (l : Listed s i c₀ u₀ cs₀ t₀ table c n t cs) where
+module _ (s : List ℕ) (i : IdCode) (c₀ : Cursor) (u₀ : Since) (t₀ table : List ℕ) (c : Cursor) (n : ℕ) (t : Since) (l : Listed s i c₀ u₀ t₀ table c n t) where
   abbrev outcome : Outcome
-  outcome = list_over s c₀ u₀ i (length t₀ / 6) cs₀
+  outcome = list_in s c₀ u₀ i (length t₀ / 6)
 
   rows-count : length (rows_in l.made) ≡ n
   rows-count = length-map l.made (λ (e : Entry). e.row) ∙ l.count
@@ -166,8 +163,8 @@ module _
   listed-length = ap length l.stored ∙ filled-length (rows_in l.made) t₀ (omega (arith, rows-count, l.room))
 
   -- commands that are no changes of the code
-  pub listed-passes : (d : Cursor) (u : Since) (ds : Commands) → Passes s i c t cs d u ds → Listed s i c₀ u₀ cs₀ t₀ table d n u ds
-  listed-passes d u ds p =
+  pub listed-passes : (d : Cursor) (u : Since) → Passes s i c t d u → Listed s i c₀ u₀ t₀ table d n u
+  listed-passes d u p =
       record {
         made = l.made;
         whole = l.whole ∙ ap (λ (x : List Entry). l.made ++ x) p.same;
@@ -187,45 +184,47 @@ module _
   ends_as e d u o = rw o (rw rows-count, l.stored)
 
   -- a change of the code
-  module _ (d : Cursor) (kind : ChangeKind) (v : Text) (ds : Commands) (h : Read s i c d (Seen.Change kind v)) (e : cs ≡ command h.command d ds) where
+  module _ (d : Cursor) (kind : ChangeKind) (v : Text) (h : Read s i c d (Seen.Change kind v)) where
     abbrev row : Change
     row = Change.Is t d.line kind v
 
     abbrev one : Entry
     one = record { row = row; from = c; since = t }
 
-    next-is : changes s i c₀ u₀ cs₀ ≡ l.made ++ (one ∷ changes s i d t ds)
-    next-is = l.whole ∙ ap (λ (x : List Entry). l.made ++ x) (changes-step s c d h.command cs ds e i t _ h.tells)
+    next-is : ahead s i c₀ u₀ ≡ l.made ++ (one ∷ ahead s i d t)
+    next-is = l.whole ∙ ap (λ (x : List Entry). l.made ++ x) (ahead_step s c d h.command h.next i t _ h.tells)
 
-    pub listed-change : n < length t₀ / 6 → Listed s i c₀ u₀ cs₀ t₀ (put table n (change_words row)) d (n + 1) t ds
+    pub listed-change : n < length t₀ / 6 → Listed s i c₀ u₀ t₀ (put table n (change_words row)) d (n + 1) t
     listed-change more =
         record {
           made = l.made ++ (one ∷ []);
-          whole = next-is ∙ sym (append_assoc l.made (one ∷ []) (changes s i d t ds));
+          whole = next-is ∙ sym (append_assoc l.made (one ∷ []) (ahead s i d t));
           count = omega (arith, length-append l.made (one ∷ []), l.count);
           room = omega arith;
           stored = rw (l.stored, rows_join l.made (one ∷ [])) (put_next (rows_in l.made) row t₀ n rows-count);
-          stops = l.stops ∙ stop_step s c d h.command cs ds e;
-          lasts = l.lasts ∙ last_step s c d h.command cs ds e;
-          times = l.times ∙ time-step s c d h.command cs ds e i t _ h.tells;
+          stops = l.stops ∙ stop_step s c d h.command h.next;
+          lasts = l.lasts ∙ last_step s c d h.command h.next;
+          times = l.times ∙ time-step s c d h.command h.next i t _ h.tells;
         }
 
     -- it finds no row
     pub listed-full : length t₀ / 6 ≤ n → Answers (Ended.Refused Refusal.ListFull c.line) c t
+    unfolding list_in
     listed-full full =
         let cap : length t₀ / 6 ≡ n = omega (arith, l.room) in
-        let rest : List Entry = one ∷ changes s i d t ds in
+        let rest : List Entry = one ∷ ahead s i d t in
         ends_as _ _ _ (rw (cap, next-is, take_at l.made rest n l.count, drop_at l.made rest n l.count))
 
   -- nothing is ahead
-  last-is : (e : Ended) (d : Cursor) → StopsAt s i c d t cs e → Answers e d t
-  last-is e d x =
-      let all : changes s i c₀ u₀ cs₀ ≡ l.made = l.whole ∙ rw x.none (append-nil l.made) in
+  last-is : (e : Ended) (d : Cursor) → ahead s i c t ≡ [] → StopsAt s c d t e → Answers e d t
+  unfolding list_in
+  last-is e d a x =
+      let all : ahead s i c₀ u₀ ≡ l.made = l.whole ∙ rw a (append-nil l.made) in
       let few : length l.made ≤ length t₀ / 6 = omega (arith, l.count, l.room) in
-      ends_as _ _ _ (rw (all, take_all (length t₀ / 6) l.made few, drop_of_length-le l.made few, l.stops, l.lasts, l.times, x.stops, x.last, x.time))
+      ends_as _ _ _ (rw (all, take_all (length t₀ / 6) l.made few, drop_of_length-le l.made few, l.stops, l.lasts, l.times, x.0, x.1, x.2))
 
-  pub listed-refused : (e : Refusal) (line : ℕ) (d : Cursor) → cs ≡ stop e line d → Answers (Ended.Refused e line) d t
-  listed-refused e line d q = last-is _ _ (stop-refused s i c d t cs e line q)
+  pub listed-refused : (e : Refusal) (line : ℕ) (d : Cursor) → next_from s c ≡ Next.Refused e line d → Answers (Ended.Refused e line) d t
+  listed-refused e line d q = last-is _ _ (ahead-refused s i c d t e line q) (stop-refused s c d t e line q)
 
-  pub listed-done : (d : Cursor) → cs ≡ finish d → Answers Ended.Whole d t
-  listed-done d q = last-is _ _ (stop-done s i c d t cs q)
+  pub listed-done : (d : Cursor) → next_from s c ≡ Next.Done d → Answers Ended.Whole d t
+  listed-done d q = last-is _ _ (ahead-done s i c d t q) (stop-done s c d t q)

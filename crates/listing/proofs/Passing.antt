@@ -9,9 +9,7 @@ use lib.ListN.{length, get_or}
 use Rattle.fast.specs.Fast.{Reads, ReadsScalar}
 use Rattle.command.specs.declared.Command.{Command}
 use Rattle.command.specs.declared.Open.{Open}
-use Rattle.command.specs.declared.Time.{Time}
 use Rattle.idcode.specs.declared.IdCode.{IdCode}
-use Rattle.parser.specs.All.{commands}
 use Rattle.parser.specs.Next.{next_from}
 use Rattle.parser_part.specs.declared.Next.{Next}
 use Rattle.token.specs.Flat.{word_read}
@@ -22,13 +20,13 @@ use Rattle.listing.specs.declared.Stand.{Stand}
 use Rattle.list_step.specs.declared.Seen.{Seen}
 use Rattle.change.specs.declared.Since.{Since}
 use Rattle.list_step.proofs.Roles.{Read}
-use Rattle.listing.proofs.Listed.{given, passes-start, passes-read, passes_on}
+use Rattle.listing.proofs.Listed.{passes-start, passes-read, passes_on}
 use Rattle.text.specs.Texts.{limit}
 
 -- ---- from c, where t was the last time, to d; the last time then stands at `at`, and there is room for n short commands
 pub record Running (s : List ℕ) (i : IdCode) (c : Cursor) (t : Since) (d : Cursor) (at n : ℕ) : Type 0 where
   pub since : Since
-  pub passes : Passes s i c t (commands s c) d since (commands s d)
+  pub passes : Passes s i c t d since
   pub held : Held s t at since
   pub long : at < length s → at + 34 ≤ length s
   pub room : d.place + 34 * n ≤ length s
@@ -38,7 +36,7 @@ module _ (s : List ℕ) (i : IdCode) (c : Cursor) (t : Since) where
   running-start n v h =
       record {
         since = t;
-        passes = passes-start s i c t _ v;
+        passes = passes-start s i c t v;
         held = (λ _. refl, λ (x : length s < length s). absurd (omega arith));
         long = λ (x : length s < length s). absurd (omega arith);
         room = h;
@@ -49,7 +47,7 @@ module _ (s : List ℕ) (i : IdCode) (c : Cursor) (t : Since) where
     pub running-asks : (length s ≤ limit) × (at < length s → at + 34 ≤ length s)
     running-asks = (r.passes.valid.short, r.long)
 
-    pub running-ends : (x : Stand) → (x.cursor ≡ d) × ((u : Since) → Held s t at u → x.since ≡ u) → Passes s i c t (commands s c) x.cursor x.since (commands s x.cursor)
+    pub running-ends : (x : Stand) → (x.cursor ≡ d) × ((u : Since) → Held s t at u → x.since ≡ u) → Passes s i c t x.cursor x.since
     running-ends x h = rw (h.0, h.1 r.since r.held) r.passes
 
   -- a hit: a time, or another code's scalar
@@ -61,25 +59,25 @@ module _ (s : List ℕ) (i : IdCode) (c : Cursor) (t : Since) where
     unfolding word_read
     step_room = omega (arith, r.room)
 
-    pub running-time : (v : Time) → Reads s d.place e (Command.Timestamp v) → Running s i c t next d.place m
+    pub running-time : (v : ℕ) → Reads s d.place e (Command.Timestamp (record { 0 = v })) → Running s i c t next d.place m
     running-time v k =
-        let h : Read s i d next (Seen.Time v) =
+        let h : Read s i d next (Seen.Time (record { 0 = v })) =
         record { command = _; next = k.reads d r.passes.valid refl; tells = refl } in
         record {
-          since = Since.Time v;
-          passes = passes_on s i c d next t r.since _ _ _ _ r.passes (passes-read s i d next r.since _ _ _ h (given s i d next _ h) refl);
+          since = Since.Time (record { 0 = v });
+          passes = passes_on s i c d next t r.since _ r.passes (passes-read s i d next r.since _ h refl);
           held = (λ (x : length s ≤ d.place). absurd (omega (arith, r.room)), λ _. (v, e, k, refl));
           long = λ _. omega (arith, r.room);
           room = step_room;
         }
 
-    pub running-other : (j : IdCode) → ReadsScalar s d.place e j → (j.0 ≡ i.0 → ⊥) → Running s i c t next at m
+    pub running-other : (j : ℕ) → ReadsScalar s d.place e j → (j ≡ i.0 → ⊥) → Running s i c t next at m
     running-other j k ne =
         let h : Read s i d next Seen.Other =
-        record { command = _; next = k.change.reads d r.passes.valid refl; tells = rw (ne_eqb j.0 i.0 ne) } in
+        record { command = _; next = k.change.reads d r.passes.valid refl; tells = rw (ne_eqb j i.0 ne) } in
         record {
           since = r.since;
-          passes = passes_on s i c d next t r.since _ _ _ _ r.passes (passes-read s i d next r.since _ _ _ h (given s i d next _ h) refl);
+          passes = passes_on s i c d next t r.since _ r.passes (passes-read s i d next r.since _ h refl);
           held = r.held;
           long = r.long;
           room = step_room;

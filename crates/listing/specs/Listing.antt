@@ -3,7 +3,6 @@
 use Rattle.std.specs.Prelude.{ℕ, ◌/◌, ◌≤◌, ◌<◌, ◌≡◌, cond, List, [], ◌∷◌, ◌++◌, map, eqb, length, take, drop}
 use Rattle.command.specs.declared.Command.{Command}
 use Rattle.command.specs.declared.Refusal.{Refusal}
-use Rattle.command.specs.declared.Time.{Time}
 use Rattle.idcode.specs.declared.IdCode.{IdCode}
 use Rattle.parser.specs.All.{Commands, command, stop, finish, commands}
 use Rattle.fast.specs.Fast.{Reads}
@@ -70,14 +69,12 @@ cut made [] e d u = record { rows = rows_in made; ended = e; cursor = d; since =
 cut made (x ∷ more) e d u =
     record { rows = rows_in made; ended = Ended.Refused Refusal.ListFull x.from.line; cursor = x.from; since = x.since }
 
--- from c, where t was the last time, of these commands, into so many rows
-abbrev pub list_over : List ℕ → Cursor → Since → IdCode → ℕ → Commands → Outcome
-list_over s c t i room cs =
+-- from c, where t was the last time, into so many rows
+unfoldable pub list_in : List ℕ → Cursor → Since → IdCode → ℕ → Outcome
+list_in s c t i room =
+    let cs : Commands = commands s c in
     let all : List Entry = changes s i c t cs in
     cut (take room all) (drop room all) (stop_of cs) (last_of cs) (time_of s c t cs)
-
-unfoldable pub list_in : List ℕ → Cursor → Since → IdCode → ℕ → Outcome
-list_in s c t i room = list_over s c t i room (commands s c)
 
 abbrev pub list_on_of : List ℕ → Cursor → Since → IdCode → List ℕ → Outcome
 list_on_of s c t i table = list_in s c t i (length table / 6)
@@ -90,12 +87,12 @@ abbrev pub answer_of : Outcome → ListAnswer
 answer_of o = record { cursor = o.cursor; count = length o.rows; ended = o.ended; since = o.since }
 
 -- ---- a run over commands that are no changes of the code
--- what is listed of cs from c on, where t was the last time, is what is listed of ds from d on, where u is it
-pub record Passes (s : List ℕ) (i : IdCode) (c : Cursor) (t : Since) (cs : Commands) (d : Cursor) (u : Since) (ds : Commands) : Type 0 where
-  pub same : changes s i c t cs ≡ changes s i d u ds
-  pub stops : stop_of cs ≡ stop_of ds
-  pub last : last_of cs ≡ last_of ds
-  pub time : time_of s c t cs ≡ time_of s d u ds
+-- what is listed from c on, where t was the last time, is what is listed from d on, where u is it
+pub record Passes (s : List ℕ) (i : IdCode) (c : Cursor) (t : Since) (d : Cursor) (u : Since) : Type 0 where
+  pub same : changes s i c t (commands s c) ≡ changes s i d u (commands s d)
+  pub stops : stop_of (commands s c) ≡ stop_of (commands s d)
+  pub last : last_of (commands s c) ≡ last_of (commands s d)
+  pub time : time_of s c t (commands s c) ≡ time_of s d u (commands s d)
   pub valid : Valid s d
   pub past : c.place ≤ d.place
 
@@ -103,4 +100,4 @@ pub record Passes (s : List ℕ) (i : IdCode) (c : Cursor) (t : Since) (cs : Com
 abbrev pub Held : List ℕ → Since → ℕ → Since → Type 0
 Held s t at u =
     (length s ≤ at → u ≡ t)
-    × (at < length s → (v : Time) × (e : ℕ) × Reads s at e (Command.Timestamp v) × (u ≡ Since.Time v))
+    × (at < length s → (v : ℕ) × (e : ℕ) × Reads s at e (Command.Timestamp (record { 0 = v })) × (u ≡ Since.Time (record { 0 = v })))

@@ -1,17 +1,17 @@
 // The listing of a code's changes into lent rows: an addition to what vcd 0.7.0 has.
+#![tactic(auto)]
+
 ghost use Rattle.std.specs.Prelude.{◌≡◌, length, ℕ, ◌+◌, ◌≤◌, ◌<◌};
 ghost use Rattle.listing.specs.Listing.{list_of, list_on_of, answer_of, Passes, Held};
 ghost use Rattle.fast.specs.Fast.{Reads};
 ghost use Rattle.command.specs.declared.Command.{Command};
-ghost use Rattle.command.specs.declared.Time.{Time};
 ghost use Rattle.change.specs.Rows.{filled};
 ghost use Rattle.change.specs.declared.Since.{Since};
-ghost use Rattle.parser.specs.All.{commands};
 ghost use Rattle.token.specs.Read.{Valid};
 ghost use Rattle.text.specs.Texts.{limit};
 
 pub use change::{Change, ChangeKind, Since, WORDS, change_at};
-use command::{Command, Open, Refusal};
+use command::{Command, Open, Refusal, Time};
 use fast::Fast;
 use idcode::IdCode;
 use list_step::Step;
@@ -19,13 +19,13 @@ use parser::Next;
 use token::Cursor;
 
 // How a listing ended: at the end of the input, or by a refusal and the line of it.
-#[derive(Drop)]
+#[derive(Clone, Copy)]
 pub enum Ended {
     Whole,
     Refused(Refusal, u64),
 }
 
-#[derive(Drop)]
+#[derive(Clone, Copy)]
 pub struct ListAnswer {
     pub cursor: Cursor,
     pub count: usize,
@@ -84,7 +84,7 @@ pub fn list_on(input: &[u8], c: Cursor, since: Since, code: IdCode, rows: &mut [
 }
 
 // Where a run stands, and the last time then.
-#[derive(Drop)]
+#[derive(Clone, Copy)]
 struct Stand {
     cursor: Cursor,
     since: Since,
@@ -93,7 +93,7 @@ struct Stand {
 // Passes the most usual commands that are no changes of the code. Of times only the place of the last is kept.
 fn fast_run(input: &[u8], c: Cursor, before: Since, code: IdCode) -> Stand
     requires { Valid input.now c }
-    ensures { Passes input.now code c before (commands input.now c) result.cursor result.since (commands input.now result.cursor) }
+    ensures { Passes input.now code c before result.cursor result.since }
 {
     let most = fast::short_commands(input.len(), c.place, input.len());
     let mut cur = c;
@@ -107,7 +107,7 @@ fn fast_run(input: &[u8], c: Cursor, before: Since, code: IdCode) -> Stand
                 cur = token::word_read(cur, end, input[end]);
             }
             Fast::Scalar(i, end) => {
-                if i.0 == code.0 {
+                if i == code.0 {
                     return so_far(input, cur, last, before);
                 }
                 cur = token::word_read(cur, end, input[end]);
@@ -141,10 +141,10 @@ fn so_far(input: &[u8], cursor: Cursor, last: usize, before: Since) -> Stand
 // The timestamp that stands at a place.
 fn time_at(input: &[u8], at: usize) -> Since
     requires { (length input.now ≤ limit) × (at + 34 ≤ length input.now) }
-    ensures { (v : Time) (e : ℕ) → Reads input.now at e (Command.Timestamp v) → result ≡ Since.Time v }
+    ensures { (v e : ℕ) → Reads input.now at e (Command.Timestamp (record { 0 = v })) → result ≡ Since.Time (record { 0 = v }) }
 {
     match fast::parse_short(input, at) {
-        Fast::Time(t, _) => Since::Time(t),
+        Fast::Time(t, _) => Since::Time(Time(t)),
         _ => time_read(input, at),
     }
 }
@@ -152,7 +152,7 @@ fn time_at(input: &[u8], at: usize) -> Since
 // The timestamp that stands at a place, by the slow path.
 fn time_read(input: &[u8], at: usize) -> Since
     requires { (length input.now ≤ limit) × (at ≤ length input.now) }
-    ensures { (v : Time) (e : ℕ) → Reads input.now at e (Command.Timestamp v) → result ≡ Since.Time v }
+    ensures { (v e : ℕ) → Reads input.now at e (Command.Timestamp (record { 0 = v })) → result ≡ Since.Time (record { 0 = v }) }
 {
     let c = Cursor {
         place: at,

@@ -11,7 +11,6 @@ use lib.Pow.{pow_pos}
 use mir.Syntax.{Width, w32}
 use mir.Val.{SFits, hbits}
 use Rattle.text.proofs.Lists.{by-test}
-use Rattle.number.specs.declared.IntError.{IntError}
 use Rattle.number.specs.declared.Number.{Number}
 use Rattle.number.specs.declared.Number.TheVariants.{Is as IsN, Refused as RefusedN}
 use Rattle.number.specs.declared.Signed.TheVariants.{Is, Refused}
@@ -20,7 +19,7 @@ use Rattle.number.proofs.Laws.{digits-below, parse-below}
 use Rattle.number.proofs.Writing.{some, short, digits-written, read-written, unsigned-decimal}
 
 -- ---- the sign
-pub signed-none : (s : List ℕ) → length s ≡ 0 → Refused IntError.Empty ≡ parse_signed s
+pub signed-none : (s : List ℕ) → length s ≡ 0 → Refused ≡ parse_signed s
 unfolding parse_signed
 signed-none [] h = refl
 signed-none (b ∷ s) h = absurd (omega arith)
@@ -42,11 +41,11 @@ neg-fits w (suc k) h = record { sfits = omega arith }
 
 plain_fits : (z : ℤ) (n : Number) → Below (2 ^ 31) n → plain n ≡ Is z → SFits w32 z
 plain_fits z (IsN v) h e = let q : pos v ≡ z = cc in rw (sym q) (record { sfits = h })
-plain_fits z (RefusedN r) h e = absurd (let z : ◌≡◌ {A = ℕ} 0 1 = cc in omega arith)
+plain_fits z RefusedN h e = absurd (let z : ◌≡◌ {A = ℕ} 0 1 = cc in omega arith)
 
 negated_fits : (z : ℤ) (n : Number) → Below (2 ^ 31 + 1) n → negated n ≡ Is z → SFits w32 z
 negated_fits z (IsN v) h e = let q : neg_ℤ (pos v) ≡ z = cc in rw (sym q) (neg-fits w32 v h)
-negated_fits z (RefusedN r) h e = absurd (let z : ◌≡◌ {A = ℕ} 0 1 = cc in omega arith)
+negated_fits z RefusedN h e = absurd (let z : ◌≡◌ {A = ℕ} 0 1 = cc in omega arith)
 
 pub signed-accepted : (z : ℤ) (s : List ℕ) → parse_signed s ≡ Is z → SFits w32 z
 unfolding parse_signed

@@ -1,4 +1,6 @@
 // Numbers as texts, as Rust's FromStr and Display have them: decimal integers.
+#![tactic(auto)]
+
 ghost use Rattle.std.specs.Prelude.{◌≡◌, ◌+◌, ◌^◌, length};
 ghost use Rattle.text.specs.Texts.{spelled, put_answer, put_bytes};
 ghost use Rattle.number.specs.Decimal.{
@@ -8,34 +10,23 @@ ghost use Rattle.number.specs.Decimal.{
   Below,
   plain,
   negated,
-  below_zero,
   parse_signed,
   decimal_of,
   signed_of,
-  reason_number,
 };
 
 use text::{Placed, Spelled};
 
-// Why a text is no number, as Rust's IntErrorKind has it.
-#[derive(Drop)]
-pub enum IntError {
-    Empty,
-    InvalidDigit,
-    TooLarge,
-    TooSmall,
-}
-
-#[derive(Drop)]
+#[derive(Clone, Copy)]
 pub enum Number {
     Is(u64),
-    Refused(IntError),
+    Refused,
 }
 
-#[derive(Drop)]
+#[derive(Clone, Copy)]
 pub enum Number32 {
     Is(u32),
-    Refused(IntError),
+    Refused,
 }
 
 pub fn parse_u32(s: &[u8]) -> Number32
@@ -44,7 +35,7 @@ pub fn parse_u32(s: &[u8]) -> Number32
     let n = parse_most(s, 4294967295);
     match n {
         Number::Is(v) => Number32::Is(v as u32),
-        Number::Refused(e) => Number32::Refused(e),
+        Number::Refused => Number32::Refused,
     }
 }
 
@@ -59,7 +50,7 @@ pub fn parse_most(s: &[u8], most: u64) -> Number
     ensures { result ≡ parse_below (most + 1) s.now }
 {
     if s.len() == 0 {
-        return Number::Refused(IntError::Empty);
+        return Number::Refused;
     }
     if s[0] == 43 {
         return digits_most(&s[1..], most);
@@ -72,18 +63,18 @@ fn digits_most(s: &[u8], most: u64) -> Number
     ensures { result ≡ digits_below (most + 1) s.now }
 {
     if s.len() == 0 {
-        return Number::Refused(IntError::InvalidDigit);
+        return Number::Refused;
     }
     let mut v: u64 = 0;
     let mut i: usize = 0;
     while i < s.len() {
         let b = s[i];
         if b < 48 || 57 < b {
-            return Number::Refused(IntError::InvalidDigit);
+            return Number::Refused;
         }
         let d = (b - 48) as u64;
         if most < d || (most - d) / 10 < v {
-            return Number::Refused(IntError::TooLarge);
+            return Number::Refused;
         }
         v = v * 10 + d;
         i += 1;
@@ -91,10 +82,10 @@ fn digits_most(s: &[u8], most: u64) -> Number
     Number::Is(v)
 }
 
-#[derive(Drop)]
+#[derive(Clone, Copy)]
 pub enum Signed {
     Is(i32),
-    Refused(IntError),
+    Refused,
 }
 
 // The same with an optional sign, as Rust's from_str for i32.
@@ -102,7 +93,7 @@ pub fn parse_i32(s: &[u8]) -> Signed
     ensures { result ≡ parse_signed s.now }
 {
     if s.len() == 0 {
-        return Signed::Refused(IntError::Empty);
+        return Signed::Refused;
     }
     if s[0] == 45 {
         let m = digits_most(&s[1..], 2147483648);
@@ -118,7 +109,7 @@ fn from_zero(n: Number) -> Signed
 {
     match n {
         Number::Is(v) => Signed::Is(v as i32),
-        Number::Refused(e) => Signed::Refused(e),
+        Number::Refused => Signed::Refused,
     }
 }
 
@@ -128,33 +119,7 @@ fn below_zero(n: Number) -> Signed
 {
     match n {
         Number::Is(v) => Signed::Is((0 - (v as i64)) as i32),
-        Number::Refused(e) => Signed::Refused(below(e)),
-    }
-}
-
-// Behind a `-` what is too large is too small.
-fn below(e: IntError) -> IntError
-    ensures { result ≡ below_zero e }
-{
-    match e {
-        IntError::Empty => IntError::Empty,
-        IntError::InvalidDigit => IntError::InvalidDigit,
-        IntError::TooLarge => IntError::TooSmall,
-        IntError::TooSmall => IntError::TooSmall,
-    }
-}
-
-impl IntError {
-    // The reason's number: its place in the order above, from 1.
-    pub fn number(self) -> u64
-        ensures { result ≡ reason_number self }
-    {
-        match self {
-            IntError::Empty => 1,
-            IntError::InvalidDigit => 2,
-            IntError::TooLarge => 3,
-            IntError::TooSmall => 4,
-        }
+        Number::Refused => Signed::Refused,
     }
 }
 

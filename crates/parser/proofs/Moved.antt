@@ -124,7 +124,7 @@ module _ (n : ℕ) (s : List ℕ) where
 
   counted : (x : Number) {f g : ℕ → Plan} → ((v : ℕ) → Same (f v) (g v)) → Same (numbered x f) (numbered x g)
   counted (Number.Is v) h = h v
-  counted (Number.Refused e) h = refuses _
+  counted Number.Refused h = refuses _
 
   named : (x : Parsed) {f g : IdCode → Plan} → ((i : IdCode) → Same (f i) (g i)) → Same (identified x f) (identified x g)
   named (Parsed.Code i) h = h i

@@ -1,5 +1,4 @@
--- What every plan holds to: the numbers of a command that is read are of their types, a scalar's value is that of its first byte, and a
--- refusal is one of reading. Assumes nothing.
+-- What every plan holds to: the numbers of a command that is read are of their types, and a refusal is one of reading. Assumes nothing.
 use Prim.Native.Nat.{ℕ, ◌-◌, ◌^◌, ◌≤◌, ◌<◌}
 use mathlib.Core.Path.{◌≡◌, refl}
 use mathlib.Core.Bool.{Bool, true, false, cond}
@@ -20,7 +19,6 @@ use Rattle.number.specs.Decimal.{parse_below, Below}
 use Rattle.real.specs.Real.{digits_in, is_real}
 use Rattle.number.specs.declared.Number.{Number}
 use Rattle.number.proofs.Laws.{parse-below}
-use Rattle.value.specs.declared.Value.{Value}
 use Rattle.idcode.specs.Id.{parse_id, all_id, id_tail, id_sum}
 use Rattle.idcode.specs.declared.IdCode.{IdCode}
 use Rattle.idcode.specs.declared.InvalidIdCode.{InvalidIdCode}
@@ -54,9 +52,9 @@ use Rattle.parser_part.specs.declared.Kind.{Kind}
 use Rattle.parser_part.specs.declared.Next.{Next}
 use Rattle.command.specs.declared.Word.{Word}
 
--- its numbers are of their types: times and ids of 64 bits, the others of 32, and an id is not the largest number
+-- its numbers are of their types: times and ids of 64 bits, the others of 32
 abbrev pub Typed : Command → Type 0
-Typed (Command.VarDef k w i t x) = (w < 2 ^ 32) × (i.0 < 2 ^ 64 - 1) × SizedIndex x
+Typed (Command.VarDef k w i t x) = (w < 2 ^ 32) × (i.0 < 2 ^ 64) × SizedIndex x
 Typed (Command.Comment t) = Unit {0}
 Typed (Command.Date t) = Unit {0}
 Typed (Command.Version t) = Unit {0}
@@ -65,10 +63,10 @@ Typed (Command.ScopeDef k t) = Unit {0}
 Typed Command.Upscope = Unit {0}
 Typed Command.Enddefinitions = Unit {0}
 Typed (Command.Timestamp t) = t.0 < 2 ^ 64
-Typed (Command.ChangeScalar i v) = i.0 < 2 ^ 64 - 1
-Typed (Command.ChangeVector i v) = i.0 < 2 ^ 64 - 1
-Typed (Command.ChangeReal i v) = i.0 < 2 ^ 64 - 1
-Typed (Command.ChangeString i v) = i.0 < 2 ^ 64 - 1
+Typed (Command.ChangeScalar i v) = i.0 < 2 ^ 64
+Typed (Command.ChangeVector i v) = i.0 < 2 ^ 64
+Typed (Command.ChangeReal i v) = i.0 < 2 ^ 64
+Typed (Command.ChangeString i v) = i.0 < 2 ^ 64
 Typed (Command.Begin k) = Unit {0}
 Typed (Command.End k) = Unit {0}
 
@@ -119,130 +117,108 @@ id-some (b ∷ w) h e = go (leb (2 ^ 64) (id_sum (id_tail (b ∷ w)))) (all_id (
     go false true i q = let z : ◌≡◌ {A = ℕ} 0 1 = cc in omega arith
     go false false i q = let z : ◌≡◌ {A = ℕ} 0 1 = cc in omega arith
 
--- a scalar's value is the one that the first byte chose
-abbrev Chosen : Kind → Command → Type 0
-Chosen x (Command.ChangeScalar i v) = x ≡ Kind.Scalar v
-Chosen x (Command.VarDef k w i t y) = Unit {0}
-Chosen x (Command.Comment t) = Unit {0}
-Chosen x (Command.Date t) = Unit {0}
-Chosen x (Command.Version t) = Unit {0}
-Chosen x (Command.Timescale q u) = Unit {0}
-Chosen x (Command.ScopeDef k t) = Unit {0}
-Chosen x Command.Upscope = Unit {0}
-Chosen x Command.Enddefinitions = Unit {0}
-Chosen x (Command.Timestamp t) = Unit {0}
-Chosen x (Command.ChangeVector i v) = Unit {0}
-Chosen x (Command.ChangeReal i v) = Unit {0}
-Chosen x (Command.ChangeString i v) = Unit {0}
-Chosen x (Command.Begin k) = Unit {0}
-Chosen x (Command.End k) = Unit {0}
+-- ---- a plan all of whose answers are so, and all of whose refusals are of reading; a token has a byte at least
+data AllTyped : Plan → Type 0 where
+  answers : (k : Command) → Typed k → AllTyped (answer k)
+  begin : (k : SimulationCommand) → AllTyped (begins k)
+  end : AllTyped ends
+  refuses : (e : Refusal) → is_of_reading e ≡ true → AllTyped (refuse e)
+  tokens : (b : Bound) {f : Text → List ℕ → Plan} → ((t : Text) (w : List ℕ) → 0 < length w → AllTyped (f t w)) → AllTyped (a_token b f)
+  texts : {f : Text → List ℕ → Plan} → ((t : Text) (w : List ℕ) → AllTyped (f t w)) → AllTyped (a_text f)
 
-abbrev Fine : Kind → Command → Type 0
-Fine x k = Typed k × Chosen x k
+tested : (t : Bool) {p q : Plan} → AllTyped p → AllTyped q → AllTyped (cond t p q)
+tested true m o = m
+tested false m o = o
 
--- ---- a plan all of whose answers are so, and all of whose refusals are of reading; a token has a byte at least. The first byte chose x.
-module _ (x : Kind) where
-  data AllTyped : Plan → Type 0 where
-    answers : (k : Command) → Fine x k → AllTyped (answer k)
-    begin : (k : SimulationCommand) → AllTyped (begins k)
-    end : AllTyped ends
-    refuses : (e : Refusal) → is_of_reading e ≡ true → AllTyped (refuse e)
-    tokens : (b : Bound) {f : Text → List ℕ → Plan} → ((t : Text) (w : List ℕ) → 0 < length w → AllTyped (f t w)) → AllTyped (a_token b f)
-    texts : {f : Text → List ℕ → Plan} → ((t : Text) (w : List ℕ) → AllTyped (f t w)) → AllTyped (a_text f)
+judged : (w : List ℕ) {p : Plan} → AllTyped p → AllTyped (cond (valid_utf8 w) p (refuse Refusal.InvalidUtf8))
+judged w m = tested (valid_utf8 w) m (refuses _ refl)
 
-  tested : (t : Bool) {p q : Plan} → AllTyped p → AllTyped q → AllTyped (cond t p q)
-  tested true m o = m
-  tested false m o = o
+counted : (limit : ℕ) (n : Number) {f : ℕ → Plan} → Below limit n → ((v : ℕ) → v < limit → AllTyped (f v)) → AllTyped (numbered n f)
+counted limit (Number.Is v) b h = h v b
+counted limit Number.Refused b h = refuses _ refl
 
-  judged : (w : List ℕ) {p : Plan} → AllTyped p → AllTyped (cond (valid_utf8 w) p (refuse Refusal.InvalidUtf8))
-  judged w m = tested (valid_utf8 w) m (refuses _ refl)
+id-typed : {f : IdCode → Plan} → ((i : IdCode) → i.0 < 2 ^ 64 → AllTyped (f i)) → (w : List ℕ) → 0 < length w → (x : Parsed) → parse_id w ≡ x
+    → AllTyped (identified x f)
+id-typed h w some (Parsed.Code i) e = h i (omega (arith, id_below w i e))
+id-typed h w some (Parsed.Refused InvalidIdCode.Empty) q = absurd (id-some w some q)
+id-typed h w some (Parsed.Refused InvalidIdCode.InvalidChars) q = refuses _ refl
+id-typed h w some (Parsed.Refused InvalidIdCode.TooLong) q = refuses _ refl
 
-  counted : (limit : ℕ) (n : Number) {f : ℕ → Plan} → Below limit n → ((v : ℕ) → v < limit → AllTyped (f v)) → AllTyped (numbered n f)
-  counted limit (Number.Is v) b h = h v b
-  counted limit (Number.Refused e) b h = refuses _ refl
+an-id : {f : IdCode → Plan} → ((i : IdCode) → i.0 < 2 ^ 64 → AllTyped (f i)) → AllTyped (an_id f)
+an-id h = tokens (most 32) (λ t w some. judged w (id-typed h w some (parse_id w) refl))
 
-  id-typed : {f : IdCode → Plan} → ((i : IdCode) → i.0 < 2 ^ 64 - 1 → AllTyped (f i)) → (w : List ℕ) → 0 < length w → (y : Parsed) → parse_id w ≡ y
-      → AllTyped (identified y f)
-  id-typed h w some (Parsed.Code i) e = h i (id_below w i e)
-  id-typed h w some (Parsed.Refused InvalidIdCode.Empty) q = absurd (id-some w some q)
-  id-typed h w some (Parsed.Refused InvalidIdCode.InvalidChars) q = refuses _ refl
-  id-typed h w some (Parsed.Refused InvalidIdCode.TooLong) q = refuses _ refl
+last : (k : Command) → Typed k → (e : List ℕ) → AllTyped (last_of k e)
+last k i e = tested (equal e end_mark) (answers k i) (refuses _ refl)
 
-  an-id : {f : IdCode → Plan} → ((i : IdCode) → i.0 < 2 ^ 64 - 1 → AllTyped (f i)) → AllTyped (an_id f)
-  an-id h = tokens (most 32) (λ t w some. judged w (id-typed h w some (parse_id w) refl))
+closing-typed : (k : Command) → Typed k → AllTyped (closing k)
+closing-typed k i = tokens (most 8) (λ t w some. last k i w)
 
-  last : (k : Command) → Fine x k → (e : List ℕ) → AllTyped (last_of k e)
-  last k i e = tested (equal e end_mark) (answers k i) (refuses _ refl)
+remark-typed : (r : Remark) → AllTyped (remark r)
+remark-typed comment = texts (λ t w. judged w (answers (Command.Comment (trimmed_in t w)) tt))
+remark-typed date = texts (λ t w. judged w (answers (Command.Date (trimmed_in t w)) tt))
+remark-typed version = texts (λ t w. judged w (answers (Command.Version (trimmed_in t w)) tt))
 
-  closing-typed : (k : Command) → Fine x k → AllTyped (closing k)
-  closing-typed k i = tokens (most 8) (λ t w some. last k i w)
+in-unit : (q : ℕ) → q < 2 ^ 32 → (u : ParsedUnit) → AllTyped (in_unit q u)
+in-unit q b (ParsedUnit.Is u) = closing-typed (Command.Timescale q u) b
+in-unit q b ParsedUnit.Invalid = refuses _ refl
 
-  remark-typed : (r : Remark) → AllTyped (remark r)
-  remark-typed comment = texts (λ t w. judged w (answers (Command.Comment (trimmed_in t w)) (tt, tt)))
-  remark-typed date = texts (λ t w. judged w (answers (Command.Date (trimmed_in t w)) (tt, tt)))
-  remark-typed version = texts (λ t w. judged w (answers (Command.Version (trimmed_in t w)) (tt, tt)))
+scaled-typed : (q u : List ℕ) → AllTyped (scaled q u)
+scaled-typed q u = counted (2 ^ 32) (parse_below (2 ^ 32) q) (parse-below (2 ^ 32) q) (λ v b. in-unit v b (parse_unit u))
 
-  in-unit : (q : ℕ) → q < 2 ^ 32 → (u : ParsedUnit) → AllTyped (in_unit q u)
-  in-unit q b (ParsedUnit.Is u) = closing-typed (Command.Timescale q u) (b, tt)
-  in-unit q b ParsedUnit.Invalid = refuses _ refl
+unit-typed : (q u : List ℕ) → AllTyped (unit_in q u)
+unit-typed q [] = tokens (most 8) (λ t w some. judged w (scaled-typed q w))
+unit-typed q (b ∷ u) = scaled-typed q (b ∷ u)
 
-  scaled-typed : (q u : List ℕ) → AllTyped (scaled q u)
-  scaled-typed q u = counted (2 ^ 32) (parse_below (2 ^ 32) q) (parse-below (2 ^ 32) q) (λ v b. in-unit v b (parse_unit u))
+timescale-typed : AllTyped timescale
+timescale-typed =
+    tokens (most 8) (λ t w some. judged w (tested (is_ascii w) (unit-typed (digits_in w) (drop (length (digits_in w)) w)) (refuses _ refl)))
 
-  unit-typed : (q u : List ℕ) → AllTyped (unit_in q u)
-  unit-typed q [] = tokens (most 8) (λ t w some. judged w (scaled-typed q w))
-  unit-typed q (b ∷ u) = scaled-typed q (b ∷ u)
+scope-typed : (k : ParsedScopeType) → AllTyped (scope_of k)
+scope-typed (ParsedScopeType.Is k) = tokens unlimited (λ t w some. judged w (closing-typed (Command.ScopeDef k t) tt))
+scope-typed ParsedScopeType.Invalid = refuses _ refl
 
-  timescale-typed : AllTyped timescale
-  timescale-typed =
-      tokens (most 8) (λ t w some. judged w (tested (is_ascii w) (unit-typed (digits_in w) (drop (length (digits_in w)) w)) (refuses _ refl)))
+indexed-typed : (v : Var) → v.size < 2 ^ 32 → v.code.0 < 2 ^ 64 → (w : List ℕ) (x : ParsedIndex) → parse_index w ≡ x → AllTyped (indexed v x)
+indexed-typed v b i w (ParsedIndex.Is x) e = tokens (most 32) (λ t u some. judged u (last (var_def v x) (b, i, (index_read x w e).1) u))
+indexed-typed v b i w ParsedIndex.Invalid e = refuses _ refl
 
-  scope-typed : (k : ParsedScopeType) → AllTyped (scope_of k)
-  scope-typed (ParsedScopeType.Is k) = tokens unlimited (λ t w some. judged w (closing-typed (Command.ScopeDef k t) (tt, tt)))
-  scope-typed ParsedScopeType.Invalid = refuses _ refl
+var-end : (v : Var) → v.size < 2 ^ 32 → v.code.0 < 2 ^ 64 → AllTyped (var_end v)
+var-end v b i =
+    tokens (most 32)
+    (λ t w some. judged w (tested (starts (bytes "[") w) (indexed-typed v b i w (parse_index w) refl) (last (var_def v ReferenceIndex.None) (b, i, tt) w)))
 
-  indexed-typed : (v : Var) → v.size < 2 ^ 32 → v.code.0 < 2 ^ 64 - 1 → (w : List ℕ) (y : ParsedIndex) → parse_index w ≡ y → AllTyped (indexed v y)
-  indexed-typed v b i w (ParsedIndex.Is y) e = tokens (most 32) (λ t u some. judged u (last (var_def v y) ((b, i, (index_read y w e).1), tt) u))
-  indexed-typed v b i w ParsedIndex.Invalid e = refuses _ refl
+var-typed : (k : ParsedVarType) → AllTyped (var_of k)
+var-typed (ParsedVarType.Is k) =
+    tokens (most 32)
+    (λ t w some. judged w (counted (2 ^ 32) (parse_below (2 ^ 32) w) (parse-below (2 ^ 32) w) (λ v b. an-id (λ i y. tokens unlimited (λ r u some. judged u (var-end _ b y))))))
+var-typed ParsedVarType.Invalid = refuses _ refl
 
-  var-end : (v : Var) → v.size < 2 ^ 32 → v.code.0 < 2 ^ 64 - 1 → AllTyped (var_end v)
-  var-end v b i =
-      tokens (most 32)
-      (λ t w some. judged w (tested (starts (bytes "[") w) (indexed-typed v b i w (parse_index w) refl) (last (var_def v ReferenceIndex.None) ((b, i, tt), tt) w)))
+word_typed : (w : Word) → AllTyped (word_plan w)
+word_typed Word.Comment = remark-typed comment
+word_typed Word.Date = remark-typed date
+word_typed Word.Version = remark-typed version
+word_typed Word.Timescale = timescale-typed
+word_typed Word.Scope = tokens (most 32) (λ t w some. judged w (scope-typed (parse_scope_type w)))
+word_typed Word.Upscope = closing-typed Command.Upscope tt
+word_typed Word.Var = tokens (most 32) (λ t w some. judged w (var-typed (parse_var_type w)))
+word_typed Word.Enddefinitions = closing-typed Command.Enddefinitions tt
+word_typed (Word.Begin k) = begin k
+word_typed Word.End = end
+word_typed Word.Unknown = refuses _ refl
 
-  var-typed : (k : ParsedVarType) → AllTyped (var_of k)
-  var-typed (ParsedVarType.Is k) =
-      tokens (most 32)
-      (λ t w some. judged w (counted (2 ^ 32) (parse_below (2 ^ 32) w) (parse-below (2 ^ 32) w) (λ v b. an-id (λ i y. tokens unlimited (λ r u some. judged u (var-end _ b y))))))
-  var-typed ParsedVarType.Invalid = refuses _ refl
-
-  word_typed : (w : Word) → AllTyped (word_plan w)
-  word_typed Word.Comment = remark-typed comment
-  word_typed Word.Date = remark-typed date
-  word_typed Word.Version = remark-typed version
-  word_typed Word.Timescale = timescale-typed
-  word_typed Word.Scope = tokens (most 32) (λ t w some. judged w (scope-typed (parse_scope_type w)))
-  word_typed Word.Upscope = closing-typed Command.Upscope (tt, tt)
-  word_typed Word.Var = tokens (most 32) (λ t w some. judged w (var-typed (parse_var_type w)))
-  word_typed Word.Enddefinitions = closing-typed Command.Enddefinitions (tt, tt)
-  word_typed (Word.Begin k) = begin k
-  word_typed Word.End = end
-  word_typed Word.Unknown = refuses _ refl
-
-  kind-typed : (k : Kind) → x ≡ k → AllTyped (kind_plan k)
-  kind-typed Kind.Dollar q = tokens (most 16) (λ t w some. word_typed (word_of w))
-  kind-typed Kind.Hash q = tokens (most 32) (λ t w some. judged w (counted (2 ^ 64) (parse_below (2 ^ 64) w) (parse-below (2 ^ 64) w) (λ v b. answers (Command.Timestamp (record { 0 = v })) (b, tt))))
-  kind-typed (Kind.Scalar v) q = an-id (λ i z. answers (Command.ChangeScalar i v) (z, q))
-  kind-typed Kind.Vector q = tokens values (λ t w some. an-id (λ i z. answers (Command.ChangeVector i t) (z, tt)))
-  kind-typed Kind.Real q = tokens (most 32) (λ t w some. judged w (tested (is_real w) (an-id (λ i z. answers (Command.ChangeReal i t) (z, tt))) (refuses _ refl)))
-  kind-typed Kind.Text q = tokens unlimited (λ t w some. judged w (an-id (λ i z. answers (Command.ChangeString i t) (z, tt))))
-  kind-typed Kind.Other q = refuses _ refl
+kind-typed : (k : Kind) → AllTyped (kind_plan k)
+kind-typed Kind.Dollar = tokens (most 16) (λ t w some. word_typed (word_of w))
+kind-typed Kind.Hash = tokens (most 32) (λ t w some. judged w (counted (2 ^ 64) (parse_below (2 ^ 64) w) (parse-below (2 ^ 64) w) (λ v b. answers (Command.Timestamp (record { 0 = v })) b)))
+kind-typed (Kind.Scalar x) = an-id (λ i z. answers (Command.ChangeScalar i x) z)
+kind-typed Kind.Vector = tokens values (λ t w some. an-id (λ i z. answers (Command.ChangeVector i t) z))
+kind-typed Kind.Real = tokens (most 32) (λ t w some. judged w (tested (is_real w) (an-id (λ i z. answers (Command.ChangeReal i t) z)) (refuses _ refl)))
+kind-typed Kind.Text = tokens unlimited (λ t w some. judged w (an-id (λ i z. answers (Command.ChangeString i t) z)))
+kind-typed Kind.Other = refuses _ refl
 
 -- ---- what a plan answers
-abbrev Tells : Kind → Next → Type 0
-Tells x (Next.Command k d) = Fine x k
-Tells x (Next.Refused e m d) = is_of_reading e ≡ true
-Tells x (Next.Done d) = Unit {0}
+abbrev Tells : Next → Type 0
+Tells (Next.Command k d) = Typed k
+Tells (Next.Refused e m d) = is_of_reading e ≡ true
+Tells (Next.Done d) = Unit {0}
 
 -- of a token: its text, which is P, or a refusal of reading
 abbrev TellsToken : (Text → Type 0) → Token → Type 0
@@ -286,46 +262,37 @@ text-tells s c =
     let l : List ℕ = up_to end_mark (rest s c) in
     by-test (starts end_mark (drop (length l) (rest s c))) (λ e. rw e tt) (λ e. rw e refl)
 
-module _ (x : Kind) where
-  then-tells : (P : Text → Type 0) (f : Text → Cursor → Next) (k : Token) → TellsToken P k → ((t : Text) (d : Cursor) → P t → Tells x (f t d)) → Tells x (and_then f k)
-  then-tells P f (Token.Word t d) y h = h t d y
-  then-tells P f (Token.Refused e d) y h = y
+then-tells : (P : Text → Type 0) (f : Text → Cursor → Next) (k : Token) → TellsToken P k → ((t : Text) (d : Cursor) → P t → Tells (f t d)) → Tells (and_then f k)
+then-tells P f (Token.Word t d) x h = h t d x
+then-tells P f (Token.Refused e d) x h = x
 
-  ended-tells : (o : Open) (c : Cursor) → Tells x (ended o c)
-  ended-tells Open.None c = refl
-  ended-tells (Open.Of k) c = (tt, tt)
+ended-tells : (o : Open) (c : Cursor) → Tells (ended o c)
+ended-tells Open.None c = refl
+ended-tells (Open.Of k) c = tt
 
-  run-tells : (s : List ℕ) {p : Plan} → AllTyped x p → (c : Cursor) → Tells x (run p s c)
-  unfolding run
-  run-tells s (answers k i) c = i
-  run-tells s (begin k) c = (tt, tt)
-  run-tells s end c = ended-tells c.sim c
-  run-tells s (refuses e h) c = h
-  run-tells s (tokens b m) c = then-tells (λ t. 0 < length (part s t)) _ (token s c b) (token-tells s c b) (λ t d y. run-tells s (m t (part s t) y) d)
-  run-tells s (texts m) c = then-tells (λ t. Unit {0}) _ (text_from s c) (text-tells s c) (λ t d y. run-tells s (m t (part s t)) d)
+run-tells : (s : List ℕ) {p : Plan} → AllTyped p → (c : Cursor) → Tells (run p s c)
+unfolding run
+run-tells s (answers k i) c = i
+run-tells s (begin k) c = tt
+run-tells s end c = ended-tells c.sim c
+run-tells s (refuses e h) c = h
+run-tells s (tokens b m) c = then-tells (λ t. 0 < length (part s t)) _ (token s c b) (token-tells s c b) (λ t d x. run-tells s (m t (part s t) x) d)
+run-tells s (texts m) c = then-tells (λ t. Unit {0}) _ (text_from s c) (text-tells s c) (λ t d x. run-tells s (m t (part s t)) d)
 
--- the kind of the byte that a command begins with
-abbrev pub kind_at : List ℕ → Cursor → Kind
-kind_at s c = kind_of (get_or s (skipped s c).place 0)
-
-next-tells : (s : List ℕ) (c : Cursor) → Tells (kind_at s c) (next_from s c)
+next-tells : (s : List ℕ) (c : Cursor) → Tells (next_from s c)
 unfolding next_from found
 next-tells s c =
     by-test (is_good s c)
     (λ e.
     let b = skipped s c in
-    rw e (by-test (ltb b.place (length s)) (λ q. rw q (run-tells (kind_at s c) s (kind-typed (kind_at s c) (kind_at s c) refl) _)) (λ q. rw q tt)))
+    rw e (by-test (ltb b.place (length s)) (λ q. rw q (run-tells s (kind-typed (kind_of (get_or s b.place 0))) _)) (λ q. rw q tt)))
     (λ e. rw e refl)
 
 pub command-typed : (s : List ℕ) (c : Cursor) {k : Command} {d : Cursor} → next_from s c ≡ Next.Command k d → Typed k
-command-typed s c e = (rw e at (next-tells s c)).0
+command-typed s c e = rw e at (next-tells s c)
 
 pub command-ranged : (s : List ℕ) (c : Cursor) {k : Command} {d : Cursor} → next_from s c ≡ Next.Command k d → Ranged k
 command-ranged s c {k} e = ranged k (command-typed s c e)
-
--- only a byte that is a value begins a scalar's change, and its value is that one
-pub scalar-kind : (s : List ℕ) (c : Cursor) {i : IdCode} {v : Value} {d : Cursor} → next_from s c ≡ Next.Command (Command.ChangeScalar i v) d → kind_at s c ≡ Kind.Scalar v
-scalar-kind s c e = (rw e at (next-tells s c)).1
 
 -- every refusal of reading is one of those that reading gives
 pub refusal-reading : (s : List ℕ) (c : Cursor) {e : Refusal} {n : ℕ} {d : Cursor} → next_from s c ≡ Next.Refused e n d → is_of_reading e ≡ true

@@ -1,4 +1,6 @@
 // Reading one command (parser.rs of vcd 0.7.0): the first byte chooses, each part is judged before the next is read.
+#![tactic(auto)]
+
 ghost use Rattle.std.specs.Prelude.{◌≡◌};
 ghost use Rattle.token.specs.Read.{Valid};
 ghost use Rattle.parser_part.specs.Plan.{run, dollar, word_plan, kind_of, kind_plan, ended as ended_of, with_open};

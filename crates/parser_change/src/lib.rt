@@ -1,10 +1,13 @@
 // Timestamps and changes of value. The hot ones try the fast path first, and leave a miss to the slow path.
+#![tactic(auto)]
+
 ghost use Rattle.std.specs.Prelude.{◌≡◌};
 ghost use Rattle.token.specs.Read.{Valid, values, token};
 ghost use Rattle.parser_part.specs.Plan.{run, an_id, answer, timestamp, scalar, vector, real, string};
 
 use command::{Command, Refusal, Time};
-use parser_part::word::{FastIdCode, FastWord};
+use idcode::IdCode;
+use parser_part::word::FastWord;
 use parser_part::{IdRead, Next, NumberRead, word};
 use text::Text;
 use token::{Cursor, Token};
@@ -43,11 +46,11 @@ pub fn parse_scalar(input: &[u8], c: Cursor, v: Value) -> Next
     let at = c.place;
     let q = word::fast_id(input, at);
     match q {
-        FastIdCode::Hit(i, end) => {
+        FastWord::Hit(i, end) => {
             let next = token::word_read(c, end, input[end]);
-            Next::Command(Command::ChangeScalar(i, v), next)
+            Next::Command(Command::ChangeScalar(IdCode(i), v), next)
         }
-        FastIdCode::Miss => slow_scalar(input, c, v),
+        FastWord::Miss => slow_scalar(input, c, v),
     }
 }
 
@@ -101,11 +104,11 @@ fn vector_id(input: &[u8], c: Cursor, t: Text) -> Next
     let at = c.place;
     let q = word::fast_id(input, at);
     match q {
-        FastIdCode::Hit(i, end) => {
+        FastWord::Hit(i, end) => {
             let next = token::word_read(c, end, input[end]);
-            Next::Command(Command::ChangeVector(i, t), next)
+            Next::Command(Command::ChangeVector(IdCode(i), t), next)
         }
-        FastIdCode::Miss => slow_vector_id(input, c, t),
+        FastWord::Miss => slow_vector_id(input, c, t),
     }
 }
 

@@ -17,7 +17,6 @@ use Rattle.text.proofs.Places.{part_length}
 use Rattle.white_space.proofs.Trimming.{trimmed-within}
 use Rattle.number.specs.Decimal.{is_digit, parse_below, narrow}
 use Rattle.real.specs.Real.{digits_in}
-use Rattle.number.specs.declared.IntError.{IntError}
 use Rattle.number.specs.declared.Number.{Number}
 use Rattle.number.specs.declared.Number32.{Number32}
 use Rattle.number.proofs.Laws.{accepted}
@@ -60,11 +59,11 @@ unit-some q (b ∷ r) h = refl
 
 narrowed : (x : Number) (f : ℕ → Plan) {n : ℕ} → Number32.Is n ≡ narrow x → f n ≡ numbered x f
 narrowed (Number.Is y) f e = cc
-narrowed (Number.Refused r) f e = cc
+narrowed Number.Refused f e = cc
 
-none : (x : Number) (f : ℕ → Plan) {r : IntError} → Number32.Refused r ≡ narrow x → refuse (Refusal.ParseIntError r) ≡ numbered x f
+none : (x : Number) (f : ℕ → Plan) → Number32.Refused ≡ narrow x → refuse Refusal.ParseIntError ≡ numbered x f
 none (Number.Is y) f e = cc
-none (Number.Refused r) f e = cc
+none Number.Refused f e = refl
 
 module _ {s : List ℕ} {c : Cursor} (v : Valid s c) where
   same : {p r : Plan} {x : Next} → p ≡ r → x ≡ run p s c → x ≡ run r s c
@@ -90,8 +89,8 @@ module _ {s : List ℕ} {c : Cursor} (v : Valid s c) where
     pub quantity-on : {n : ℕ} {x : Next} → k ≡ Number32.Is n → x ≡ run (in_unit n (parse_unit u)) s c → x ≡ run (scaled q u) s c
     quantity-on h = same (narrowed (parse_below (2 ^ 32) q) (λ n. in_unit n (parse_unit u)) (sym h ∙ e))
 
-    pub quantity-off : {r : IntError} → k ≡ Number32.Refused r → refused (Refusal.ParseIntError r) c ≡ run (scaled q u) s c
-    quantity-off h = same (none (parse_below (2 ^ 32) q) (λ n. in_unit n (parse_unit u)) (sym h ∙ e)) (refusing s _)
+    pub quantity-off : k ≡ Number32.Refused → refused Refusal.ParseIntError c ≡ run (scaled q u) s c
+    quantity-off h = same (none (parse_below (2 ^ 32) q) (λ n. in_unit n (parse_unit u)) (sym h ∙ e)) (refusing s Refusal.ParseIntError)
 
 -- ---- a number that was read is below its limit
 pub number_small : (s : List ℕ) (c : Cursor) (limit : ℕ) {x : ℕ} {d : Cursor} → number_from s c limit ≡ NumberRead.Is x d → x < limit
@@ -100,7 +99,7 @@ number_small s c limit {x} {d} e = go (word_from s c (most 32)) e
   where
     at : (n : Number) (w : List ℕ) (b : Cursor) → parse_below limit w ≡ n → number_at n b ≡ NumberRead.Is x d → x < limit
     at (Number.Is y) w b p h = let q : y ≡ x = cc in rw q at (accepted limit y w p)
-    at (Number.Refused r) w b p h = let z : ◌≡◌ {A = ℕ} 0 1 = cc in omega arith
+    at Number.Refused w b p h = let z : ◌≡◌ {A = ℕ} 0 1 = cc in omega arith
 
     go : (k : Token) → number_of_token s limit k ≡ NumberRead.Is x d → x < limit
     go (Token.Word t b) h = at (parse_below limit (part s t)) (part s t) b refl h

@@ -1,4 +1,6 @@
 // The declaration commands that have parts: texts, the timescale, scopes and variables.
+#![tactic(auto)]
+
 ghost use Rattle.std.specs.Prelude.{◌≡◌, length, drop};
 ghost use Rattle.token.specs.Read.{Valid, text_from};
 ghost use Rattle.command.specs.Meaning.{comment, date, version};
@@ -131,7 +133,7 @@ fn scale(input: &[u8], c: Cursor, quantity: &[u8], unit: &[u8]) -> Next
     let n = number::parse_u32(quantity);
     match n {
         Number32::Is(v) => in_unit(input, c, v, TimescaleUnit::from_str(unit)),
-        Number32::Refused(e) => Next::Refused(Refusal::ParseIntError(e), c.line, c),
+        Number32::Refused => Next::Refused(Refusal::ParseIntError, c.line, c),
     }
 }
 

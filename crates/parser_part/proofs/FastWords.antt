@@ -52,7 +52,7 @@ begins : (b : ℕ) (w : List ℕ) → 48 ≤ b → b ≤ 57 → parse_below (2 ^
 unfolding digits_below
 begins b w l u =
     let e : 0 * 10 + (b - 48) ≡ b - 48 = omega arith in
-    sym (sign-no (2 ^ 64) (b ∷ w) (λ q. omega arith) (λ q. omega arith)) ∙ rw (← e) (from-digit (2 ^ 64) 0 b w (omega arith) (digit b l u))
+    sym (sign-no (2 ^ 64) (b ∷ w) (λ q. omega arith)) ∙ rw (← e) (from-digit (2 ^ 64) 0 b w (digit b l u))
 
 pub digits-start : (s : List ℕ) (at : ℕ) → at < length s → 48 ≤ get_or s at 0 → get_or s at 0 ≤ 57 → DigitsTo s at (at + 1) (get_or s at 0 - 48)
 digits-start s at h l u =
@@ -80,7 +80,7 @@ module _ (s : List ℕ) (at i v : ℕ) (d : DigitsTo s at i v) where
         some = omega (arith, d.some);
         few = omega arith;
         small = rw (k, pow-suc 10 (i - at)) (omega (arith, d.small));
-        goes = d.goes ∙ rw (word-step s i h (solid (get_or s i 0) (omega arith))) (from-digit (2 ^ 64) v (get_or s i 0) (word (drop (i + 1) s)) (omega (arith, digits-fit)) (digit (get_or s i 0) l u));
+        goes = d.goes ∙ rw (word-step s i h (solid (get_or s i 0) (omega arith))) (from-digit (2 ^ 64) v (get_or s i 0) (word (drop (i + 1) s)) (digit (get_or s i 0) l u));
       }
 
   pub digits-end : i < length s → is_blank (get_or s i 0) ≡ true → Whole s at i × (parse_below (2 ^ 64) (word (drop at s)) ≡ Number.Is v)

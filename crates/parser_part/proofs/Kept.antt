@@ -41,7 +41,7 @@ module _ (s : List ℕ) (c : Cursor) (v : Valid s c) where
     where
       at : (n : Number) (d : Cursor) → From s c d → NumberKept s c (number_at n d)
       at (Number.Is x) d f = f
-      at (Number.Refused e) d f = f
+      at Number.Refused d f = f
 
       go : (k : Token) → Kept s c k → NumberKept s c (number_of_token s limit k)
       go (Token.Word t d) q = at (parse_below limit (part s t)) d q.0

@@ -63,7 +63,7 @@ module _ (s : List ℕ) (c : Cursor) where
     where
       at : (n : Number) (d : Cursor) → run (numbered n f) s d ≡ number_then (λ v e. run (f v) s e) (number_at n d)
       at (Number.Is v) d = refl
-      at (Number.Refused e) d = refl
+      at Number.Refused d = refl
 
       go : (k : Token) → and_then (λ t d. run (numbered (parse_below limit (part s t)) f) s d) k ≡ number_then (λ v d. run (f v) s d) (number_of_token s limit k)
       go (Token.Word t d) = at (parse_below limit (part s t)) d

@@ -7,7 +7,6 @@ use Rattle.number.specs.declared.Number.{Number}
 use Rattle.idcode.specs.Id.{parse_id}
 use Rattle.idcode.specs.declared.Parsed.{Parsed}
 use Rattle.token.specs.Read.{word}
-use Rattle.parser_part.specs.declared.word.FastIdCode.{FastIdCode}
 use Rattle.parser_part.specs.declared.word.FastWord.{FastWord}
 
 -- the word that starts at `at` is UTF-8, within the limit, and ends before e, where a blank stands
@@ -24,9 +23,9 @@ abbrev pub FastNumber : List ℕ → ℕ → FastWord → Type 0
 FastNumber s at (FastWord.Hit v e) = Whole s at e × (parse_below (2 ^ 64) (word (drop at s)) ≡ Number.Is v)
 FastNumber s at FastWord.Miss = Unit {0}
 
-abbrev pub FastId : List ℕ → ℕ → FastIdCode → Type 0
-FastId s at (FastIdCode.Hit i e) = Whole s at e × (parse_id (word (drop at s)) ≡ Parsed.Code i)
-FastId s at FastIdCode.Miss = Unit {0}
+abbrev pub FastId : List ℕ → ℕ → FastWord → Type 0
+FastId s at (FastWord.Hit v e) = Whole s at e × (parse_id (word (drop at s)) ≡ Parsed.Code (record { 0 = v }))
+FastId s at FastWord.Miss = Unit {0}
 
 -- do some bytes stand from `at` to e, and a blank after them?
 abbrev pub ends_at : List ℕ → ℕ → ℕ → Bool

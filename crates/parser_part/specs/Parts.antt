@@ -29,7 +29,7 @@ word_from s c n = judged s (token s c n)
 
 abbrev pub number_at : Number → Cursor → NumberRead
 number_at (Number.Is v) d = NumberRead.Is v d
-number_at (Number.Refused e) d = NumberRead.Refused (Refusal.ParseIntError e) d
+number_at Number.Refused d = NumberRead.Refused Refusal.ParseIntError d
 
 abbrev pub number_of_token : List ℕ → ℕ → Token → NumberRead
 number_of_token s limit (Token.Word t d) = number_at (parse_below limit (part s t)) d

@@ -79,7 +79,7 @@ a_word n f = a_token n (λ t w. cond (valid_utf8 w) (f t w) (refuse Refusal.Inva
 
 abbrev pub numbered : Number → (ℕ → Plan) → Plan
 numbered (Number.Is v) f = f v
-numbered (Number.Refused e) f = refuse (Refusal.ParseIntError e)
+numbered Number.Refused f = refuse Refusal.ParseIntError
 
 -- a number below the limit
 abbrev pub a_number : ℕ → (ℕ → Plan) → Plan

@@ -1,4 +1,6 @@
 // The parts of commands: tokens that must be UTF-8, numbers, ids, and the closing `$end`.
+#![tactic(auto)]
+
 pub mod word;
 
 ghost use Rattle.std.specs.Prelude.{◌≡◌, ◌+◌};
@@ -13,7 +15,7 @@ use token::{Cursor, Token};
 use value::Value;
 
 // What a command's first byte chooses.
-#[derive(Drop)]
+#[derive(Clone, Copy)]
 pub enum Kind {
     Dollar,
     Hash,
@@ -25,20 +27,20 @@ pub enum Kind {
 }
 
 // A command and the cursor after it; a refusal, its line, and the cursor just after the last byte read; or the end.
-#[derive(Drop)]
+#[derive(Clone, Copy)]
 pub enum Next {
     Command(Command, Cursor),
     Refused(Refusal, u64, Cursor),
     Done(Cursor),
 }
 
-#[derive(Drop)]
+#[derive(Clone, Copy)]
 pub enum NumberRead {
     Is(u64, Cursor),
     Refused(Refusal, Cursor),
 }
 
-#[derive(Drop)]
+#[derive(Clone, Copy)]
 pub enum IdRead {
     Is(IdCode, Cursor),
     Refused(Refusal, Cursor),
@@ -87,7 +89,7 @@ fn number_at(n: Number, c: Cursor) -> NumberRead
 {
     match n {
         Number::Is(v) => NumberRead::Is(v, c),
-        Number::Refused(e) => NumberRead::Refused(Refusal::ParseIntError(e), c),
+        Number::Refused => NumberRead::Refused(Refusal::ParseIntError, c),
     }
 }
 

@@ -5,17 +5,9 @@ ghost use Rattle.text.specs.Bytes.{is_blank};
 ghost use Rattle.parser_part.specs.FastWord.{FastNumber, FastId, ends_at};
 ghost use Rattle.text.specs.Texts.{limit};
 
-use idcode::IdCode;
-
-#[derive(Drop)]
+#[derive(Clone, Copy)]
 pub enum FastWord {
     Hit(u64, usize),
-    Miss,
-}
-
-#[derive(Drop)]
-pub enum FastIdCode {
-    Hit(IdCode, usize),
     Miss,
 }
 
@@ -67,30 +59,30 @@ fn number_end(b: u8, v: u64, i: usize) -> FastWord
 }
 
 // The id from `at` up to a blank, of 9 bytes at most.
-pub fn fast_id(input: &[u8], at: usize) -> FastIdCode
+pub fn fast_id(input: &[u8], at: usize) -> FastWord
     requires at_in_bounds { at ≤ length input.now }
     requires input_len_bound { length input.now ≤ limit }
     ensures { FastId input.now at result }
 {
     if input.len() <= at + 1 {
-        return FastIdCode::Miss;
+        return FastWord::Miss;
     }
     let first = input[at];
     if first < 33 {
-        return FastIdCode::Miss;
+        return FastWord::Miss;
     }
     if 126 < first {
-        return FastIdCode::Miss;
+        return FastWord::Miss;
     }
     // Most ids have one byte.
     if text::whitespace_byte(input[at + 1]) {
-        return FastIdCode::Hit(IdCode(text::wide(first) - 33), at + 1);
+        return FastWord::Hit(text::wide(first) - 33, at + 1);
     }
     fast_long_id(input, at)
 }
 
 // An id that has more than one byte.
-fn fast_long_id(input: &[u8], at: usize) -> FastIdCode
+fn fast_long_id(input: &[u8], at: usize) -> FastWord
     requires at_in_bounds { (at + 1 < length input.now) × (length input.now ≤ limit) }
     requires bound { (33 ≤ slice_index input.now at) × (slice_index input.now at ≤ 126) }
     ensures { FastId input.now at result }
@@ -101,22 +93,22 @@ fn fast_long_id(input: &[u8], at: usize) -> FastIdCode
     while i < input.len() {
         let b = input[i];
         if text::whitespace_byte(b) {
-            return FastIdCode::Hit(IdCode(sum - 1), i);
+            return FastWord::Hit(sum - 1, i);
         }
         if b < 33 {
-            return FastIdCode::Miss;
+            return FastWord::Miss;
         }
         if 126 < b {
-            return FastIdCode::Miss;
+            return FastWord::Miss;
         }
         if at + 9 <= i {
-            return FastIdCode::Miss;
+            return FastWord::Miss;
         }
         sum = sum + (text::wide(b) - 32) * power;
         power = power * 94;
         i += 1;
     }
-    FastIdCode::Miss
+    FastWord::Miss
 }
 
 // Whether some bytes stand from `at` to `end`, and a blank after them.

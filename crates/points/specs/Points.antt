@@ -1,4 +1,4 @@
--- Document 01's starred points and request 2's two cases: what is asked, and what must be answered, in the page's numbers.
+-- Document 01's starred points: what is asked, and what must be answered, in the page's numbers.
 use Rattle.std.specs.Prelude.{ℕ, ◌≡◌, List, [], ◌∷◌, map}
 use Rattle.idcode.specs.Id.{parse_id, id_text}
 use Rattle.idcode.specs.declared.Parsed.{Parsed}
@@ -6,31 +6,27 @@ use Rattle.scope.specs.Index.{parse_index, index_text}
 use Rattle.scope.specs.declared.ParsedIndex.{ParsedIndex}
 use Rattle.command.specs.Meaning.{Meaning, remark, comment, change, vector}
 use Rattle.command.specs.Refusals.{number_of, id_refusal, index_refusal}
-use Rattle.widen.specs.Widen.{widened}
 use Rattle.parser.specs.Next.{fresh}
 use Rattle.parser.specs.All.{Reading, reads, stops, ends, read_all}
 use Rattle.text.specs.Bytes.{bytes}
 
--- an id text, an index, a dump that is read from a fresh cursor, or a vector's values at a width
+-- an id text, an index, or a dump that is read from a fresh cursor
 pub data Asked : Type 0 where
   an_id : List ℕ → Asked
   an_index : List ℕ → Asked
   a_dump : List ℕ → Asked
-  a_vector : List ℕ → ℕ → Asked
 
 -- how reading a dump ends: at its end, or by a refusal's number at a line
 pub data Ending : Type 0 where
   done : Ending
   refused : ℕ → ℕ → Ending
 
--- a code and the text that is written for it; the text that is written for an index; a refusal's number; a dump's commands, and its end;
--- the values that are written
+-- a code and the text that is written for it; the text that is written for an index; a refusal's number; a dump's commands, and its end
 pub data Answer : Type 0 where
   code : ℕ → List ℕ → Answer
   index : List ℕ → Answer
   refusal : ℕ → Answer
   dump : List Meaning → Ending → Answer
-  values : List ℕ → Answer
 
 abbrev pub id_answer : Parsed → Answer
 id_answer (Parsed.Code c) = code c.0 (id_text c.0)
@@ -58,7 +54,6 @@ abbrev pub answer : Asked → Answer
 answer (an_id s) = id_answer (parse_id s)
 answer (an_index s) = index_answer (parse_index s)
 answer (a_dump s) = dump_answer (read_all s fresh)
-answer (a_vector v width) = values (widened v width)
 
 -- `!` is 0; `~` is 93; `!"` is 188; `~~` is 8,929; `n999999999` is rewritten the same; `n9999999999` is 18; `[7` is 14;
 -- `$end` LF, fresh, is 6 at line 1; `b 1` LF `#100` LF is one vector and no timestamp; `$comment a$end` is `a`; `$upscope $end` ending there is 1
@@ -85,18 +80,8 @@ from_the_last =
     ∷ (an_id (127 ∷ bytes "~~~~~~~~~"), refusal 17)
     ∷ []
 
--- Request 2: `bx` at width 2 is `xx`, `bz1` at width 4 is `zzz1`.
-abbrev pub filled : List (Asked × Answer)
-filled =
-    (a_vector (bytes "x") 2, values (bytes "xx"))
-    ∷ (a_vector (bytes "z1") 4, values (bytes "zzz1"))
-    ∷ []
-
 abbrev pub Holds : List (Asked × Answer) → Type 0
 Holds ps = map (λ (p : Asked × Answer). (p.0, answer p.0)) ps ≡ ps
 
 abbrev pub Starred : Type 0
 Starred = Holds points × Holds from_the_last
-
-abbrev pub Filled : Type 0
-Filled = Holds filled

@@ -19,6 +19,4 @@ pub mod Example
 pub mod LibraryExample
 pub mod Lines
 pub mod Standard
-pub mod Widening
 pub mod Jobs
-pub mod Strict

@@ -8,7 +8,7 @@ use Rattle.text.specs.Bytes.{bytes, is_blank, equal, has, starts}
 use Rattle.text.specs.Names.{lookup}
 use Rattle.text.specs.Texts.{part, put_answer, put_bytes, too_long}
 use Rattle.utf8.specs.Utf8.{lies, due_after, well_formed, valid_utf8}
-use Rattle.number.specs.Decimal.{is_digit, all_digits, value, number_from, digits_below, parse_below, digits_of}
+use Rattle.number.specs.Decimal.{is_digit, all_digits, value, number_from, digits_below, unsigned, parse_below, digits_of}
 use Rattle.value.specs.declared.Value.{Value}
 use Rattle.idcode.specs.Id.{parse_id, is_id_byte, all_id, id_tail, sum_from, text_of}
 use Rattle.command.specs.Meaning.{Meaning, timestamp, change, scalar}
@@ -44,7 +44,7 @@ calls =
     nine 3  -- no room
     ∷ nine 4
     ∷ vcd_write_header [] [] [] (room 9) tt  -- no head
-    ∷ vcd_rewrite (bytes "1! 0\" q") (0 ∷ 1 ∷ 0 ∷ 0 ∷ 0 ∷ []) (room 9) 0  -- the last byte is no command
+    ∷ vcd_rewrite (bytes "1! 0\" q") (0 ∷ 1 ∷ 0 ∷ 0 ∷ []) (room 9) 0  -- the last byte is no command
     ∷ []
 
 pub file : List ℕ
@@ -54,7 +54,7 @@ pub accepted : List Meaning
 accepted = timestamp 10 ∷ change (record { 0 = 0 }) (scalar Value.V1) ∷ change (record { 0 = 1 }) (scalar Value.V0) ∷ []
 
 pub written : library_runs start_words calls ≡ record { file = file; accepted = accepted }
-unfolding calls file accepted ran library_effect command_call write_header_call rewrite_call open_of cursor_of writer_of head_of record_at command_of command_in all_zero is_used number_most amount_most has_code has_text taken rewrite_of rewritten meanings_in commands commands_on call outcome too_long put_answer put_bytes layout is_id state_after next_from is_good found kind_of run lookup skipped gap word after byte_read end_read token word_here word_token is_blank equal has starts part valid_utf8 well_formed due_after lies parse_below digits_below number_from all_digits value is_digit digits_of parse_id is_id_byte all_id id_tail sum_from text_of
+unfolding calls file accepted ran library_effect command_call write_header_call rewrite_call open_of cursor_of writer_of head_of record_at command_of command_in all_zero is_used number_most amount_most has_code has_text taken rewrite_of rewritten meanings_in commands commands_on call outcome too_long put_answer put_bytes layout is_id state_after next_from is_good found kind_of run lookup skipped gap word after byte_read end_read token word_here word_token is_blank equal has starts part valid_utf8 well_formed due_after lies parse_below unsigned digits_below number_from all_digits value is_digit digits_of parse_id is_id_byte all_id id_tail sum_from text_of
 written = refl
 
 pub reads_so : read_all file start ≡ exactly accepted

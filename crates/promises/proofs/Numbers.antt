@@ -32,7 +32,7 @@ use Rattle.vcd_state.proofs.Taken.{scale_small}
 use Rattle.promises.specs.Runs.{SizedScale}
 
 sized : (s : List ℕ) (k : Command) → Typed k → Sized (meaning s k)
-sized s (Command.VarDef k w i t x) z = (z.0, omega (arith, z.1), z.2)
+sized s (Command.VarDef k w i t x) z = (z.0, z.1, z.2)
 sized s (Command.Comment t) z = tt
 sized s (Command.Date t) z = tt
 sized s (Command.Version t) z = tt
@@ -41,10 +41,10 @@ sized s (Command.ScopeDef k t) z = tt
 sized s Command.Upscope z = tt
 sized s Command.Enddefinitions z = tt
 sized s (Command.Timestamp t) z = z
-sized s (Command.ChangeScalar i v) z = omega (arith, z)
-sized s (Command.ChangeVector i v) z = omega (arith, z)
-sized s (Command.ChangeReal i v) z = omega (arith, z)
-sized s (Command.ChangeString i v) z = omega (arith, z)
+sized s (Command.ChangeScalar i v) z = z
+sized s (Command.ChangeVector i v) z = z
+sized s (Command.ChangeReal i v) z = z
+sized s (Command.ChangeString i v) z = z
 sized s (Command.Begin k) z = tt
 sized s (Command.End k) z = tt
 

@@ -1,29 +1,23 @@
 -- What a run writes is the layouts of the accepted commands, joined, and each of them was writable in its turn; so it reads back. Assumes nothing.
 use Prim.Native.Nat.{ℕ, zero, suc, ◌+◌, ◌-◌, ◌^◌, ◌≤◌, ◌<◌}
 use mathlib.Core.Path.{◌≡◌, refl, sym, ap, ap₂, subst, ◌∙◌}
-use mathlib.Core.Bool.{Bool, true, false, cond, not, ◌&&◌, ◌||◌}
+use mathlib.Core.Bool.{Bool, true, false, cond, not, ◌&&◌}
 use mathlib.Core.List.{List, [], ◌∷◌, ◌++◌, append_assoc, append-nil}
 use native.Mathlib.Omega.{arith}
-use borrow.Author.Tests.{eqb-false, ne_eqb}
+use borrow.Author.Tests.{eqb-false}
 use lib.Dec.{leb, eqb}
 use lib.ListN.{length, take, drop}
 use lib.Seq.{take-append_seam}
 use Rattle.text.specs.Texts.{limit, put_answer, put_bytes}
 use Rattle.text.proofs.Lists.{by-test, both, not-swap}
-use Rattle.change.specs.Rows.{since_in}
-use Rattle.change.specs.declared.Since.{Since}
-use Rattle.change.specs.declared.SinceRead.{SinceRead}
-use Rattle.codes.specs.Codes.{codes_in}
 use Rattle.command.specs.Meaning.{Meaning, remark, timescale, scope_def, upscope, var_def, enddefinitions, timestamp, change, begin, end, meaning}
 use Rattle.command.specs.Refusals.{number_of}
 use Rattle.command.specs.declared.Command.{Command}
 use Rattle.command.specs.declared.Refusal.{Refusal}
-use Rattle.command.proofs.Refusals.{number-range}
 use Rattle.token.specs.declared.Cursor.{Cursor}
 use Rattle.parser_part.specs.declared.Next.{Next}
 use Rattle.parser.specs.Next.{next_from, fresh as start}
-use Rattle.parser.specs.All.{Commands, command, stop, finish, followed, commands_on, commands, read_all, exactly}
-use Rattle.rows.specs.Good.{is_good_table}
+use Rattle.parser.specs.All.{followed, commands_on, commands, read_all, exactly}
 use Rattle.rows.specs.Rows.{rows_of}
 use Rattle.record.specs.Record.{record_at}
 use Rattle.record.specs.declared.Recorded.{Recorded}
@@ -36,37 +30,29 @@ use Rattle.write.specs.Run.{layouts, states_after, Sized, AllSized, Accepted, ta
 use Rattle.write.specs.declared.Writer.{Writer}
 use Rattle.write.specs.declared.Written.{Written}
 use Rattle.lent_writer.specs.Lent.{lent_answer, lent_state}
-use Rattle.tree.specs.Chain.{rest, is_scope_at}
-use Rattle.tree.specs.Place.{rows_misplaced}
-use Rattle.write_header.specs.Meanings.{header_meanings, scope_meanings}
-use Rattle.write_header.specs.Written.{Outcome as HeaderOutcome, misplaced as header_misplaced, header_call, scope_call}
+use Rattle.write_header.specs.Meanings.{header_meanings}
+use Rattle.write_header.specs.Written.{Outcome as HeaderOutcome, header_call}
 use Rattle.write_header.specs.declared.HeaderWritten.{HeaderWritten}
-use Rattle.write_header.proofs.Takes.{Takes, AreWords, KeptSized, accepted, scope_accepted, header-takes, scope-takes, header-all, scope-all, sized-header, sized-scope}
+use Rattle.write_header.proofs.Takes.{Takes, AreWords, KeptSized, refused, accepted, header-takes, header-all, sized-header}
 use Rattle.rewrite.specs.Rewrite.{Outcome as Rewriting, meanings_in, rewrite_of, filled}
-use Rattle.rewrite.proofs.Taken.{Takes as Took, rewrite-takes}
-use Rattle.strict.specs.Strict.{State, after, after_header, filtered, strictly}
-use Rattle.strict_judge.specs.Judge.{role_of, judge}
-use Rattle.strict_judge.specs.declared.Verdict.{Verdict}
-use Rattle.strict_rewrite.specs.StrictRewrite.{strict_rewrite_of}
-use Rattle.strict_rewrite.proofs.Same.{strict-rewrite-takes}
-use Rattle.strict_calls.specs.Strict.{rewrite_stated, strict_rewritten, strict_rewrite_call}
+use Rattle.rewrite.proofs.Taken.{rewrite-takes}
 use Rattle.vcd_state.specs.State.{writer_words, cursor_of, head_of}
 use Rattle.vcd_state.specs.declared.CursorRead.{CursorRead}
 use Rattle.vcd_state.specs.declared.HeadRead.{HeadRead}
 use Rattle.vcd_state.specs.declared.WriterRead.{WriterRead}
 use Rattle.vcd_state.proofs.Back.{writer-back}
-use Rattle.write_calls.specs.Writing.{WriteLeft, wrote_command, command_on, command_call, wrote_header, head_on, write_header_call, write_scope_call, rewrite_kept, rewritten, rewrite_on, rewrite_call}
-use Rattle.promises.specs.Runs.{Effect, Ran, ran, SizedTable, SizedScale, Call, single, lent, adding, header, scope, rewriting, strict_rewriting, gives, single_gives, lent_gives, header_taken, scope_taken, header_gives, rewrite_taken, strict_taken, rewriting_gives, effect_of, runs, LibraryCall, vcd_command, vcd_write_header, vcd_write_scope, vcd_rewrite, vcd_strict_rewrite, on_head, on_cursor, on_since, left_gives, rewrite_left, record_taken, library_effect, library_runs}
-use Rattle.promises.specs.Stated.{Joined, RunAccepted, HeaderWhole, ScopeWhole, RoundTrip, start_words, LibraryAccepted, LibraryRoundTrip, RewrittenFile}
+use Rattle.write_calls.specs.Writing.{WriteLeft, wrote_command, command_on, command_call, wrote_header, head_on, write_header_call, RewriteLeft, rewrite_kept, rewritten, rewrite_on, rewrite_call}
+use Rattle.promises.specs.Runs.{Effect, Ran, ran, SizedTable, SizedScale, Call, single, lent, adding, header, rewriting, gives, single_gives, lent_gives, header_taken, header_gives, rewrite_taken, effect_of, runs, LibraryCall, vcd_command, vcd_write_header, vcd_rewrite, on_head, on_cursor, left_gives, record_taken, library_effect, library_runs}
+use Rattle.promises.specs.Stated.{Joined, RunAccepted, HeaderWhole, RoundTrip, start_words, LibraryAccepted, LibraryRoundTrip, RewrittenFile}
 use Rattle.promises.proofs.Numbers.{command-sized, SizedRecord, sized-record, SizedHead, sized-head}
 use Rattle.promises.proofs.WrittenRead.{written_read}
 
-pub layouts-append : (ms ns : List Meaning) → layouts (ms ++ ns) ≡ layouts ms ++ layouts ns
+layouts-append : (ms ns : List Meaning) → layouts (ms ++ ns) ≡ layouts ms ++ layouts ns
 unfolding layouts
 layouts-append [] ns = refl
 layouts-append (m ∷ ms) ns = ap (λ (l : List ℕ). layout m ++ l) (layouts-append ms ns) ∙ sym (append_assoc (layout m) (layouts ms) (layouts ns))
 
-pub accepted-append : (w : Writer) (ms ns : List Meaning) → Accepted w ms → Accepted (states_after w ms) ns → Accepted w (ms ++ ns)
+accepted-append : (w : Writer) (ms ns : List Meaning) → Accepted w ms → Accepted (states_after w ms) ns → Accepted w (ms ++ ns)
 unfolding states_after
 accepted-append w [] ns a b = b
 accepted-append w (m ∷ ms) ns a b = (a.0, a.1, accepted-append (state_after w m) ms ns a.2 b)
@@ -97,7 +83,7 @@ one-gave false true w m o e z =
     (λ q. rw q (record { bytes = take-append_seam (layout m) (drop (length (layout m)) o) ∙ sym (append-nil (layout m)); each = (e, z, tt); state = refl }))
     (λ q. rw q (record { bytes = refl; each = tt; state = refl }))
 
-pub taken-each : (w : Writer) (room : ℕ) (ms : List Meaning) → AllSized ms → Accepted w (taken w room ms)
+taken-each : (w : Writer) (room : ℕ) (ms : List Meaning) → AllSized ms → Accepted w (taken w room ms)
 unfolding taken
 taken-each w room [] z = tt
 taken-each w room (m ∷ ms) z =
@@ -139,18 +125,10 @@ header-gave w src h table n out z y =
     let x : HeaderOutcome = header_call w src h table n out in
     let ms : List Meaning = header_meanings src h (rows_of table n) in
     header-gives w out (accepted w src h table n out) x.answer x.left (header-takes w src h table n out)
-    (taken-or (header_misplaced src h (rows_of table n) || not (is_good_table (rows_of table n))) w (length out) ms (sized-header src h table n (words_are table z) (scale-is h.timescale y)))
-
-scope-gave : (w : Writer) (src table : List ℕ) (n i : ℕ) (out : List ℕ) → SizedTable table
-    → let x : HeaderOutcome = scope_call w src table n i out in
-    ByValue w (header_gives (scope_taken w src table n i (length out)) x.answer x.left)
-scope-gave w src table n i out z =
-    let x : HeaderOutcome = scope_call w src table n i out in
-    header-gives w out (scope_accepted w src table n i out) x.answer x.left (scope-takes w src table n i out)
-    (taken-or (rows_misplaced src (rows_of table n) || not (is_good_table (rows_of table n) && is_scope_at table n i)) w (length out) (scope_meanings src i (rest table n i)) (sized-scope src table n i (words_are table z)))
+    (taken-or (refused src h table n) w (length out) ms (sized-header src h table n (words_are table z) (scale-is h.timescale y)))
 
 -- what is read is of its types
-pub read-sized : (fuel : ℕ) (s : List ℕ) (c : Cursor) → AllSized (meanings_in s (commands_on fuel s c))
+read-sized : (fuel : ℕ) (s : List ℕ) (c : Cursor) → AllSized (meanings_in s (commands_on fuel s c))
 unfolding commands_on meanings_in
 read-sized zero s c = tt
 read-sized (suc fuel) s c = go (next_from s c) refl (read-sized fuel s)
@@ -161,41 +139,18 @@ read-sized (suc fuel) s c = go (next_from s c) refl (read-sized fuel s)
     go (Next.Done d) e ih = tt
 
 -- rewriting: what it took, whoever keeps the state
-took-gave : (S : Type 0) (form : Writer → S) (w : Writer) (ms : List Meaning) (x : Rewriting) (out : List ℕ) → Took w (length out) ms x → AllSized ms
-    → Gave S form w
-    (record { bytes = take (length x.bytes) (filled x.bytes out); accepted = taken w (length out) ms; state = form x.writer })
-took-gave S form w ms x out t z =
-    record {
-      bytes = take-append_seam x.bytes (drop (length x.bytes) out) ∙ t.0;
-      each = taken-each w (length out) ms z;
-      state = ap form t.1;
-    }
-
 rewrite-gave : (S : Type 0) (form : Writer → S) (w : Writer) (src : List ℕ) (c : Cursor) (out : List ℕ) → let x : Rewriting = rewrite_of src c w out in
     Gave S form w
     (record { bytes = take (length x.bytes) (filled x.bytes out); accepted = rewrite_taken w src c (length out); state = form x.writer })
 unfolding commands
-rewrite-gave S form w src c out = took-gave S form w (meanings_in src (commands src c)) (rewrite_of src c w out) out (rewrite-takes src c w out) (read-sized (suc (length src - c.place)) src c)
-
--- strict mode gives no other commands than were read
-strict-sized : (s : List ℕ) (st : State) (cs : Commands) → AllSized (meanings_in s cs) → AllSized (meanings_in s (strictly st cs))
-unfolding meanings_in strictly
-strict-sized s st (command k d more) z = go (judge st.codes st.last (role_of k)) (strict-sized s (after st (role_of k)) more z.1)
-  where
-    go : (v : Verdict) → AllSized (meanings_in s (strictly (after st (role_of k)) more)) → AllSized (meanings_in s (filtered k d (strictly (after st (role_of k)) more) v))
-    go Verdict.Passes y = (z.0, y)
-    go (Verdict.Refused e) y = tt
-strict-sized s st (stop e n d) z = tt
-strict-sized s st (finish d) z = tt
-
-strict-gave : (S : Type 0) (form : Writer → S) (w : Writer) (src codes : List ℕ) (c : Cursor) (t : Since) (out : List ℕ)
-    → let x : Rewriting = strict_rewrite_of src codes c t w out in
-    Gave S form w
-    (record { bytes = take (length x.bytes) (filled x.bytes out); accepted = strict_taken w src c t codes (length out); state = form x.writer })
-unfolding commands
-strict-gave S form w src codes c t out =
-    took-gave S form w (meanings_in src (strictly (after_header codes t) (commands src c))) (strict_rewrite_of src codes c t w out) out
-    (strict-rewrite-takes src codes c t w out) (strict-sized src (after_header codes t) (commands src c) (read-sized (suc (length src - c.place)) src c))
+rewrite-gave S form w src c out =
+    let x : Rewriting = rewrite_of src c w out in
+    let t = rewrite-takes src c w out in
+    record {
+      bytes = take-append_seam x.bytes (drop (length x.bytes) out) ∙ t.0;
+      each = taken-each w (length out) (meanings_in src (commands src c)) (read-sized (suc (length src - c.place)) src c);
+      state = ap form t.1;
+    }
 
 -- the writer's next id is of its type, so a variable may have it
 gave : (w : Writer) (c : Call) → w.id.0 < 2 ^ 64 → ByValue w (effect_of w c)
@@ -204,9 +159,7 @@ gave w (single k src out z) h = single-gave w src k out z
 gave w (lent k src out z) h = let x : Outcome = call w src k out in lent-gave w (meaning src k) x.answer x.left (single-gave w src k out z)
 gave w (adding k width t x src out z y) h = single-gave w src (new_var w k width t x) out (z, h, y)
 gave w (header src k table n out z y) h = header-gave w src k table n out z y
-gave w (scope src table n i out z) h = scope-gave w src table n i out z
 gave w (rewriting src c out) h = rewrite-gave Writer itself w src c out
-gave w (strict_rewriting src c t table n out) h = strict-gave Writer itself w src (codes_in table n) c t out
 
 given : (ms : List Meaning) (r : HeaderWritten) (o : List ℕ) → (header_gives ms r o).accepted ≡ ms
 given ms (HeaderWritten.Bytes n v) o = refl
@@ -217,12 +170,6 @@ unfolding effect_of
 header-whole w v src h table n m out z y e =
     let x : HeaderOutcome = header_call w src h table n out in
     given _ x.answer x.left ∙ header-all w src h table n out m v e
-
-pub scope-whole : ScopeWhole
-unfolding effect_of
-scope-whole w v src table n i m out z e =
-    let x : HeaderOutcome = scope_call w src table n i out in
-    given _ x.answer x.left ∙ scope-all w src table n i out m v e
 
 -- ---- the next id stays of its type: only an id below 2^64 - 1 is written and raises it
 id-after : (w : Writer) (m : Meaning) → writable w m ≡ true → Sized m → w.id.0 < 2 ^ 64 → (state_after w m).id.0 < 2 ^ 64
@@ -281,7 +228,31 @@ rewritten-file s c cs e h = round_trip cs h ∙ sym e
 -- ---- the library
 -- no refusal's number is 0
 refused-number : (e : Refusal) → eqb (number_of e) 0 ≡ false
-refused-number e = ne_eqb (number_of e) 0 (λ z. omega (arith, number-range e))
+refused-number Refusal.UnexpectedEof = refl
+refused-number Refusal.InvalidUtf8 = refl
+refused-number Refusal.UnexpectedCharacter = refl
+refused-number Refusal.TokenTooLong = refl
+refused-number Refusal.ExpectedEndCommand = refl
+refused-number Refusal.UnmatchedEnd = refl
+refused-number Refusal.UnknownCommand = refl
+refused-number Refusal.UnexpectedHeaderCommand = refl
+refused-number Refusal.ParseIntError = refl
+refused-number Refusal.ParseFloatError = refl
+refused-number Refusal.InvalidTimescaleUnit = refl
+refused-number Refusal.InvalidScopeType = refl
+refused-number Refusal.InvalidVarType = refl
+refused-number Refusal.InvalidReferenceIndex = refl
+refused-number Refusal.InvalidValueChar = refl
+refused-number Refusal.IdEmpty = refl
+refused-number Refusal.IdInvalidChars = refl
+refused-number Refusal.IdTooLong = refl
+refused-number Refusal.TooDeep = refl
+refused-number Refusal.TableFull = refl
+refused-number Refusal.NoRoom = refl
+refused-number Refusal.NotWritable = refl
+refused-number Refusal.BadTable = refl
+refused-number Refusal.ListFull = refl
+refused-number Refusal.BadPlace = refl
 
 -- a record's command, whatever the writer answers
 answer-gave : (w : Writer) (src : List ℕ) (k : Command) (r : Written) (o : List ℕ) → ByValue w (gives w (meaning src k) r o)
@@ -312,34 +283,18 @@ head-gave w src table out (HeadRead.Is h n) z y =
 head-gave w src table out HeadRead.Bad z y = record { bytes = refl; each = tt; state = refl }
 
 library-gave : (w : Writer) (c : LibraryCall) → w.id.0 < 2 ^ 64 → ByWords w (library_effect (writer_words w) c)
-unfolding library_effect command_call write_header_call write_scope_call rewrite_call strict_rewrite_call layouts states_after
+unfolding library_effect command_call write_header_call rewrite_call layouts states_after
 library-gave w (vcd_command src words out z) h =
     by-test (eqb (length words) 9)
     (λ e. rw (e, writer-back w) (record-gave w src out (record_at words 0) (sized-record src words 0 (words_are words z))))
     (λ e. rw e (record { bytes = refl; each = tt; state = refl }))
 library-gave w (vcd_write_header src head table out z) h = rw (writer-back w) (head-gave w src table out (head_of head) z (sized-head head))
-library-gave w (vcd_write_scope src table n i out z) h =
-    let x : HeaderOutcome = scope_call w src table n i out in
-    rw (writer-back w) (head-gives w (scope_taken w src table n i (length out)) x.answer x.left (scope-gave w src table n i out z))
 library-gave w (vcd_rewrite src cursor out line) h = rw (writer-back w) (go (cursor_of cursor))
   where
-    go : (r : CursorRead)
-        → ByWords w
-        (rewrite_left (on_cursor (λ c. rewrite_taken w src c (length out)) r) (rewrite_on (rewritten src out line) (rewrite_kept cursor (writer_words w) out 0 line) r (WriterRead.Is w)))
+    go : (r : CursorRead) → let x : RewriteLeft = rewrite_on (rewritten src out line) (rewrite_kept cursor (writer_words w) out 0 line) r (WriterRead.Is w) in
+        ByWords w (record { bytes = take x.count x.output; accepted = on_cursor (λ c. rewrite_taken w src c (length out)) r; state = x.writer })
     go (CursorRead.Is c) = rewrite-gave (List ℕ) writer_words w src c out
     go CursorRead.Bad = record { bytes = refl; each = tt; state = refl }
-library-gave w (vcd_strict_rewrite src cursor since table n out line) h = rw (writer-back w) (go (cursor_of cursor) (since_in since))
-  where
-    codes : List ℕ
-    codes = codes_in table n
-
-    go : (r : CursorRead) (u : SinceRead)
-        → ByWords w
-        (rewrite_left (on_cursor (λ c. on_since (λ t. strict_taken w src c t codes (length out)) u) r)
-        (rewrite_stated (strict_rewritten src codes out line) (record { base = rewrite_kept cursor (writer_words w) out 0 line; since = since }) r u (WriterRead.Is w)).base)
-    go (CursorRead.Is c) (SinceRead.Is t) = strict-gave (List ℕ) writer_words w src codes c t out
-    go (CursorRead.Is c) SinceRead.Bad = record { bytes = refl; each = tt; state = refl }
-    go CursorRead.Bad u = record { bytes = refl; each = tt; state = refl }
 
 pub library-accepted : LibraryAccepted
 library-accepted w cs h = joined (List ℕ) LibraryCall writer_words library_effect library-gave w cs h

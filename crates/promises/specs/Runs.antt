@@ -1,13 +1,9 @@
 -- Runs of calls: each at the state that the last one left, and with an output of its own. The file is the accepted bytes joined. The state
 -- is a writer, or the words that a caller of the library keeps.
-use Rattle.std.specs.Prelude.{ℕ, ◌^◌, ◌<◌, cond, not, ◌&&◌, ◌||◌, List, [], ◌∷◌, ◌++◌, eqb, length, take}
+use Rattle.std.specs.Prelude.{ℕ, ◌^◌, ◌<◌, cond, not, ◌||◌, List, [], ◌∷◌, ◌++◌, eqb, length, take}
 use Rattle.text.specs.declared.Text.{Text}
 use Rattle.scope.specs.declared.ReferenceIndex.{ReferenceIndex}
 use Rattle.scope.specs.declared.VarType.{VarType}
-use Rattle.change.specs.Rows.{since_in}
-use Rattle.change.specs.declared.Since.{Since}
-use Rattle.change.specs.declared.SinceRead.{SinceRead}
-use Rattle.codes.specs.Codes.{codes_in}
 use Rattle.command.specs.Meaning.{Meaning, meaning}
 use Rattle.command.specs.declared.Command.{Command}
 use Rattle.token.specs.declared.Cursor.{Cursor}
@@ -26,20 +22,15 @@ use Rattle.write.specs.declared.Writer.{Writer}
 use Rattle.write.specs.declared.Written.{Written}
 use Rattle.lent_writer.specs.Lent.{lent_answer, lent_state}
 use Rattle.lent_writer.specs.declared.Wrote.{Wrote}
-use Rattle.tree.specs.Chain.{rest, is_scope_at}
-use Rattle.tree.specs.Place.{rows_misplaced}
-use Rattle.write_header.specs.Meanings.{header_meanings, scope_meanings}
-use Rattle.write_header.specs.Written.{Outcome, misplaced, header_call, scope_call}
+use Rattle.write_header.specs.Meanings.{header_meanings}
+use Rattle.write_header.specs.Written.{Outcome, misplaced, header_call}
 use Rattle.write_header.specs.declared.HeaderWritten.{HeaderWritten}
 use Rattle.rewrite.specs.Rewrite.{Outcome as Rewriting, meanings_in, rewrite_of, answer_of, filled}
-use Rattle.strict.specs.Strict.{after_header, strictly}
-use Rattle.strict_rewrite.specs.StrictRewrite.{strict_rewrite_of}
-use Rattle.strict_calls.specs.Strict.{strict_rewrite_call}
 use Rattle.vcd_state.specs.State.{cursor_of, writer_of, head_of}
 use Rattle.vcd_state.specs.declared.CursorRead.{CursorRead}
 use Rattle.vcd_state.specs.declared.HeadRead.{HeadRead}
 use Rattle.vcd_state.specs.declared.WriterRead.{WriterRead}
-use Rattle.write_calls.specs.Writing.{WriteLeft, RewriteLeft, command_call, write_header_call, write_scope_call, rewrite_call}
+use Rattle.write_calls.specs.Writing.{WriteLeft, RewriteLeft, command_call, write_header_call, rewrite_call}
 
 -- ---- any calls, whatever their state is
 -- what a call gives: bytes of the file, the meanings of the commands that it accepted, and the next state
@@ -71,17 +62,14 @@ SizedScale KeptTimescale.None = Unit {0}
 SizedScale (KeptTimescale.Is n u) = n < 2 ^ 32
 
 -- A call: a command, whose texts lie in src; the same with the state lent; a variable with the writer's next id; the first n rows of a
--- table as a header; one of them, a scope, with all that is in it; the commands of src from a cursor on, rewritten; or the same in strict
--- mode, after a header of n rows, where t was the last time. `single` is every call with one command of its own, `adding` is add_var and
--- add_wire.
+-- table as a header; or the commands of src from a cursor on, rewritten. `single` is every call with one command of its own, `adding` is
+-- add_var and add_wire.
 pub data Call : Type 0 where
   single : (k : Command) (src out : List ℕ) → Sized (meaning src k) → Call
   lent : (k : Command) (src out : List ℕ) → Sized (meaning src k) → Call
   adding : (k : VarType) (width : ℕ) (t : Text) (x : ReferenceIndex) (src out : List ℕ) → width < 2 ^ 32 → SizedIndex x → Call
   header : (src : List ℕ) (h : Header) (table : List ℕ) (n : ℕ) (out : List ℕ) → SizedTable table → SizedScale h.timescale → Call
-  scope : (src table : List ℕ) (n i : ℕ) (out : List ℕ) → SizedTable table → Call
   rewriting : (src : List ℕ) (c : Cursor) (out : List ℕ) → Call
-  strict_rewriting : (src : List ℕ) (c : Cursor) (t : Since) (table : List ℕ) (n : ℕ) (out : List ℕ) → Call
 
 -- an accepted command gives as many bytes as it answers, from the start of its output, and the next state; a refused one nothing
 abbrev pub gives : Writer → Meaning → Written → List ℕ → Effect Writer
@@ -101,29 +89,14 @@ lent_gives m (Wrote.Refused e) v o = record { bytes = []; accepted = []; state =
 abbrev pub header_taken : Writer → List ℕ → Header → List Row → ℕ → List Meaning
 header_taken w src h rs room = cond (misplaced src h rs || not (is_good_table rs)) [] (taken w room (header_meanings src h rs))
 
--- those of one scope's: none also where row i is no scope (23)
-abbrev pub scope_taken : Writer → List ℕ → List ℕ → ℕ → ℕ → ℕ → List Meaning
-scope_taken w src table n i room =
-    let rs : List Row = rows_of table n in
-    cond (rows_misplaced src rs || not (is_good_table rs && is_scope_at table n i)) [] (taken w room (scope_meanings src i (rest table n i)))
-
--- what a header's call or a scope's gives, stopped or not: as many bytes as it answers, from the start of its output, and the state
--- that it answers
+-- what a header's call gives, stopped or not: as many bytes as it answers, from the start of its output, and the state that it answers
 abbrev pub header_gives : List Meaning → HeaderWritten → List ℕ → Effect Writer
 header_gives ms (HeaderWritten.Bytes n v) o = record { bytes = take n o; accepted = ms; state = v }
 header_gives ms (HeaderWritten.Refused e n v) o = record { bytes = take n o; accepted = ms; state = v }
 
--- the commands that rewriting accepts: of those that are read, the ones before the first that may not be written or has no room; in
--- strict mode, of those that are given
+-- the commands that rewriting accepts: of those that are read, the ones before the first that may not be written or has no room
 abbrev pub rewrite_taken : Writer → List ℕ → Cursor → ℕ → List Meaning
 rewrite_taken w src c room = taken w room (meanings_in src (commands src c))
-
-abbrev pub strict_taken : Writer → List ℕ → Cursor → Since → List ℕ → ℕ → List Meaning
-strict_taken w src c t codes room = taken w room (meanings_in src (strictly (after_header codes t) (commands src c)))
-
--- what rewriting gives: as many bytes as it answers, from the start of its output, and the state that it answers
-abbrev pub rewriting_gives : List Meaning → Rewriting → List ℕ → Effect Writer
-rewriting_gives ms x o = record { bytes = take (answer_of x).count (filled x.bytes o); accepted = ms; state = (answer_of x).writer }
 
 -- what a call gives
 unfoldable pub effect_of : Writer → Call → Effect Writer
@@ -134,24 +107,24 @@ effect_of w (adding k width t x src out z y) = single_gives w src (new_var w k w
 effect_of w (header src h table n out z y) =
     let x : Outcome = header_call w src h table n out in
     header_gives (header_taken w src h (rows_of table n) (length out)) x.answer x.left
-effect_of w (scope src table n i out z) =
-    let x : Outcome = scope_call w src table n i out in header_gives (scope_taken w src table n i (length out)) x.answer x.left
-effect_of w (rewriting src c out) = rewriting_gives (rewrite_taken w src c (length out)) (rewrite_of src c w out) out
-effect_of w (strict_rewriting src c t table n out) =
-    rewriting_gives (strict_taken w src c t (codes_in table n) (length out)) (strict_rewrite_of src (codes_in table n) c t w out) out
+effect_of w (rewriting src c out) =
+    let x : Rewriting = rewrite_of src c w out in
+    record {
+      bytes = take (answer_of x).count (filled x.bytes out);
+      accepted = rewrite_taken w src c (length out);
+      state = (answer_of x).writer;
+    }
 
 abbrev pub runs : Writer → List Call → Ran
 runs w cs = ran effect_of w cs
 
 -- ---- the library's calls, over words
 -- A call of the library that writes, with the arrays that it is lent besides the state: vcd_command with a record, vcd_write_header with a
--- head and rows, vcd_write_scope with rows and a number, vcd_rewrite with a cursor and a line. Its count is 0 before it.
+-- head and rows, vcd_rewrite with a cursor and a line. Its count is 0 before it.
 pub data LibraryCall : Type 0 where
   vcd_command : (src words out : List ℕ) → SizedTable words → LibraryCall
   vcd_write_header : (src head table out : List ℕ) → SizedTable table → LibraryCall
-  vcd_write_scope : (src table : List ℕ) (n i : ℕ) (out : List ℕ) → SizedTable table → LibraryCall
   vcd_rewrite : (src cursor out : List ℕ) (line : ℕ) → LibraryCall
-  vcd_strict_rewrite : (src cursor since table : List ℕ) (n : ℕ) (out : List ℕ) (line : ℕ) → LibraryCall
 
 -- what words are: nothing is accepted where they are no state, record, head or cursor
 abbrev pub on_writer : (Writer → List Meaning) → WriterRead → List Meaning
@@ -170,16 +143,9 @@ abbrev pub on_cursor : (Cursor → List Meaning) → CursorRead → List Meaning
 on_cursor f (CursorRead.Is c) = f c
 on_cursor f CursorRead.Bad = []
 
-abbrev pub on_since : (Since → List Meaning) → SinceRead → List Meaning
-on_since f (SinceRead.Is t) = f t
-on_since f SinceRead.Bad = []
-
 -- the bytes counted, from the start of the output, and the words that are left
 abbrev pub left_gives : List Meaning → WriteLeft → Effect (List ℕ)
 left_gives ms x = record { bytes = take x.count x.output; accepted = ms; state = x.writer }
-
-abbrev pub rewrite_left : List Meaning → RewriteLeft → Effect (List ℕ)
-rewrite_left ms x = record { bytes = take x.count x.output; accepted = ms; state = x.writer }
 
 -- a record's command is accepted where the answer is 0
 abbrev pub record_taken : List ℕ → Recorded → ℕ → List Meaning
@@ -191,15 +157,13 @@ library_effect ws (vcd_command src words out z) =
 library_effect ws (vcd_write_header src head table out z) =
     left_gives (on_writer (λ w. on_head (λ h n. header_taken w src h (rows_of table n) (length out)) (head_of head)) (writer_of ws))
     (write_header_call ws src head table out 0)
-library_effect ws (vcd_write_scope src table n i out z) =
-    left_gives (on_writer (λ w. scope_taken w src table n i (length out)) (writer_of ws)) (write_scope_call ws src table n i out 0)
 library_effect ws (vcd_rewrite src cursor out line) =
-    rewrite_left (on_writer (λ w. on_cursor (λ c. rewrite_taken w src c (length out)) (cursor_of cursor)) (writer_of ws)) (rewrite_call src cursor ws out 0 line)
-library_effect ws (vcd_strict_rewrite src cursor since table n out line) =
-    let codes : List ℕ = codes_in table n in
-    rewrite_left
-    (on_writer (λ w. on_cursor (λ c. on_since (λ t. strict_taken w src c t codes (length out)) (since_in since)) (cursor_of cursor)) (writer_of ws))
-    (strict_rewrite_call src codes cursor since ws out 0 line).base
+    let x : RewriteLeft = rewrite_call src cursor ws out 0 line in
+    record {
+      bytes = take x.count x.output;
+      accepted = on_writer (λ w. on_cursor (λ c. rewrite_taken w src c (length out)) (cursor_of cursor)) (writer_of ws);
+      state = x.writer;
+    }
 
 abbrev pub library_runs : List ℕ → List LibraryCall → Ran
 library_runs ws cs = ran library_effect ws cs

@@ -1,8 +1,7 @@
 -- What is promised: the statements of this crate in one place. Their proofs are in proofs/, under the same names in lower case.
-use Rattle.std.specs.Prelude.{ℕ, suc, ◌+◌, ◌-◌, ◌*◌, ◌/◌, ◌^◌, ◌≤◌, ◌<◌, max, ◌≡◌, true, false, List, [], ◌∷◌, ◌++◌, map, length, take, replicate}
+use Rattle.std.specs.Prelude.{ℕ, suc, ◌+◌, ◌-◌, ◌*◌, ◌/◌, ◌^◌, ◌≤◌, ◌<◌, ◌≡◌, true, false, List, [], ◌∷◌, ◌++◌, length, take, replicate}
 use Rattle.text.specs.Bytes.{bytes, all_blank}
 use Rattle.text.specs.declared.Text.{Text}
-use Rattle.value.specs.Values.{lower}
 use Rattle.value.specs.declared.Value.{Value}
 use Rattle.idcode.specs.Id.{parse_id, id_text, id_sum}
 use Rattle.idcode.specs.declared.IdCode.{IdCode}
@@ -30,9 +29,8 @@ use Rattle.write.specs.Run.{layouts, Sized, Accepted}
 use Rattle.write.specs.declared.Added.{Added}
 use Rattle.write.specs.declared.Writer.{Writer}
 use Rattle.write.specs.declared.Written.{Written}
-use Rattle.tree.specs.Chain.{rest as rows_after}
-use Rattle.write_header.specs.Meanings.{header_meanings, scope_meanings}
-use Rattle.write_header.specs.Written.{Outcome as HeaderOutcome, header_call, scope_call, Does as HeaderDoes}
+use Rattle.write_header.specs.Meanings.{header_meanings}
+use Rattle.write_header.specs.Written.{Outcome as HeaderOutcome, header_call, Does as HeaderDoes}
 use Rattle.write_header.specs.declared.HeaderWritten.{HeaderWritten}
 use Rattle.vcd_state.specs.State.{writer_words}
 use Rattle.list_step.specs.Step.{change as change_told}
@@ -40,8 +38,6 @@ use Rattle.listing.specs.Listing.{Outcome as Listing, list_in}
 use Rattle.listing.specs.declared.Ended.{Ended}
 use Rattle.change.specs.declared.ChangeKind.{ChangeKind}
 use Rattle.change.specs.declared.Since.{Since}
-use Rattle.widen.specs.Widen.{widened, widen_answer, widen_bytes}
-use Rattle.widen.specs.declared.Widened.{Widened}
 use Rattle.list_job.specs.Whole.{list_text, list_whole}
 use Rattle.list_job.specs.Turns.{lent, row_words, change_words, Runs as Turns, Turned, Does as ListDoes}
 use Rattle.list_job.specs.declared.State.{State}
@@ -51,12 +47,7 @@ use Rattle.reformat_job.specs.Reformat.{lent_bytes, reformat_text, reformat_whol
 use Rattle.reformat_job.specs.Turns.{Runs as ReformatTurns, Turned as ReformatTurned, Does as ReformatDoes}
 use Rattle.reformat_job.specs.declared.State.{State as ReformatState}
 use Rattle.reformat_job.specs.declared.Turn.{Turn as ReformatTurn}
-use Rattle.strict.specs.Stated.{StrictSame, StrictUpto}
-use Rattle.strict_header.specs.Stated.{StrictHeaderSame}
-use Rattle.strict_read.specs.Stated.{StrictListSame}
-use Rattle.strict_rewrite.specs.Stated.{StrictRewriteSame}
-use Rattle.verdict.specs.Stated.{VerdictPassed}
-use Rattle.promises.specs.Runs.{SizedTable, SizedScale, Call, header, scope, effect_of, Ran, runs, LibraryCall, library_runs}
+use Rattle.promises.specs.Runs.{SizedTable, SizedScale, Call, header, effect_of, Ran, runs, LibraryCall, library_runs}
 use Rattle.promises.specs.Listed.{Step, Steps, Stops, role_in, count, Holds, HoldsOn, joined, paged}
 
 -- All commands from a cursor, as everything below has them: a command and then those from the cursor after it; or the refusal, or the
@@ -127,13 +118,6 @@ HeaderWhole =
     (w v : Writer) (src : List ℕ) (h : Header) (table : List ℕ) (n m : ℕ) (out : List ℕ) (z : SizedTable table) (y : SizedScale h.timescale)
     → (header_call w src h table n out).answer ≡ HeaderWritten.Bytes m v
     → (effect_of w (header src h table n out z y)).accepted ≡ header_meanings src h (rows_of table n)
-
--- The same of one scope.
-abbrev pub ScopeWhole : Type 0
-ScopeWhole =
-    (w v : Writer) (src table : List ℕ) (n i m : ℕ) (out : List ℕ) (z : SizedTable table)
-    → (scope_call w src table n i out).answer ≡ HeaderWritten.Bytes m v
-    → (effect_of w (scope src table n i out z)).accepted ≡ scope_meanings src i (rows_after table n i)
 
 -- Any calls of a new writer, in any mixture, refused ones among them: the file reads back as exactly the accepted commands, then the end.
 abbrev pub RoundTrip : Type 0
@@ -214,7 +198,7 @@ Pinned = (A : Type 0) (r q x : A) → r ≡ x → q ≡ x → r ≡ q
 abbrev pub PinnedTwo : Type 1
 PinnedTwo = (A B : Type 0) (r q x : A) (o p y : B) → (r ≡ x) × (o ≡ y) → (q ≡ x) × (p ≡ y) → (r ≡ q) × (o ≡ p)
 
--- of calls that write a command, a variable with the next id, a header or a scope.
+-- of calls that write a command, a variable with the next id, a header.
 abbrev pub DoesPinned : Type 0
 DoesPinned = (r q : Written) (o p : List ℕ) (x : Outcome) → Does r o x → Does q p x → (r ≡ q) × (o ≡ p)
 
@@ -290,23 +274,6 @@ pub record ListingPages : Type 0 where
   pub all : (s : List ℕ) (c : Cursor) (t : Since) (i : IdCode) (xs : List Step) (d : Cursor) (e : Ended) (f : Cursor) → Steps s c xs d → Stops s d e f
       → (n k m : ℕ) → count s i xs ≤ n * suc k → count s i xs ≤ m → paged s i n k c t ≡ list_in s c t i m
 
--- ---- widening
--- Widening to one width and then to another is widening to the larger, whatever the bytes are.
-abbrev pub WidenTwice : Type 0
-WidenTwice = (v : List ℕ) (m n : ℕ) → m ≤ 1024 → n ≤ 1024 → widened (widened v m) n ≡ widened v (max m n)
-
--- Widening to the vector's own length or less only puts it in lower case.
-abbrev pub WidenNarrow : Type 0
-WidenNarrow = (v : List ℕ) (n : ℕ) → n ≤ length v → widened v n ≡ map lower v
-
--- Two calls: the bytes that the first one counted, lent as the second one's input, give the answer and leave the output of one call with
--- the larger width.
-abbrev pub WidenCalls : Type 0
-WidenCalls =
-    (s : List ℕ) (t : Text) (m n k : ℕ) (mid out : List ℕ) → m ≤ 1024 → n ≤ 1024 → length mid ≤ limit → widen_answer s t m mid ≡ Widened.Bytes k
-    → (widen_answer (widen_bytes s t m mid) (record { start = 0; len = k }) n out ≡ widen_answer s t (max m n) out)
-    × (widen_bytes (widen_bytes s t m mid) (record { start = 0; len = k }) n out ≡ widen_bytes s t (max m n) out)
-
 -- ---- the programs
 -- The turns of the listing program, from the first state, into tables for the most rows and changes and an output of so many bytes, end;
 -- their bytes, joined, are the whole of its text, and the last one tells whether the input was whole. Whatever the input is.
@@ -320,17 +287,3 @@ Printed =
 abbrev pub Reformatted : Type 0
 Reformatted =
     (s table : List ℕ) → length table ≡ 10 * header_rows → ReformatTurns s lent_bytes table ReformatState.Begin (reformat_text s) (reformat_whole s)
-
--- ---- strict mode
--- Each is stated in Stated.antt of crates strict, strict_header, strict_read, strict_rewrite and verdict.
-pub record StrictMode : Type 0 where
-  -- a file that is not refused by 26 to 28 gives the commands, cursors and end of base mode; every other one gives these up to the first
-  -- command that offends one of the three rules, and then its refusal
-  pub same : StrictSame
-  pub upto : StrictUpto
-  -- what is read of a header, listed and rewritten is then the base's
-  pub heads : StrictHeaderSame
-  pub lists : StrictListSame
-  pub rewrites : StrictRewriteSame
-  -- a dump that passes is read by base mode to its end
-  pub passed : VerdictPassed

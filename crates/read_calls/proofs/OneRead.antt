@@ -13,14 +13,14 @@ use Rattle.parser.proofs.All.{commands-step}
 use Rattle.records.specs.Read.{Outcome, taken, read_of, filled}
 use Rattle.record.specs.Record.{record_words, words_of}
 use Rattle.token.specs.declared.Cursor.{Cursor}
-use Rattle.read_calls.specs.Reading.{Left, one_read, many_read, read_status, read_reason}
+use Rattle.read_calls.specs.Reading.{Left, one_read, many_read, read_status}
 use Rattle.vcd_state.specs.State.{cursor_words}
 
 abbrev left_of : List ℕ → Outcome → Left
 left_of t o =
     record {
       status = read_status o.ended;
-      cursor = cursor_words o.cursor (read_reason o.ended);
+      cursor = cursor_words o.cursor;
       table = filled o.commands t;
       count = length o.commands;
     }
@@ -32,7 +32,7 @@ module _ (s : List ℕ) (c : Cursor) (t : List ℕ) (h : length t ≡ 9) where
       let w : List ℕ = record_words k in
       let none : drop 9 t ≡ [] = ap (λ (n : ℕ). drop n t) (sym h) ∙ drop-length t in
       let e : (w ++ []) ++ drop 9 t ≡ w = rw (none, append-nil w) (append-nil w) in
-      λ i. record { status = 0; cursor = cursor_words d 0; table = e i; count = 1 }
+      λ i. record { status = 0; cursor = cursor_words d; table = e i; count = 1 }
   one-taken (Next.Refused e line d) = refl
   one-taken (Next.Done d) = refl
 

@@ -1,7 +1,7 @@
 -- What each reading call answers, and what it leaves in each lent array. An answer is 0, the page's number of a refusal, or 255 where
 -- reading is at the end. 25 with nothing changed, where an array has the wrong length or its words are no state.
 use Rattle.std.specs.Prelude.{ℕ, ◌*◌, ◌-◌, ◌^◌, Bool, true, false, cond, List, eqb, length, take, drop}
-use Rattle.command.specs.Refusals.{number_of, reason_of}
+use Rattle.command.specs.Refusals.{number_of}
 use Rattle.header.specs.Header.{Outcome as HeaderOutcome, header_of, answer_of as header_answer}
 use Rattle.rows.specs.Rows.{filled as header_filled, row_at}
 use Rattle.header.specs.declared.Ended.{Ended as HeaderEnded}
@@ -40,9 +40,9 @@ on_cursor f x CursorRead.Bad = x
 
 -- one command: the count is 1 where there is one
 abbrev pub one_read : List ℕ → Next → Left
-one_read t (Next.Command k d) = record { status = 0; cursor = cursor_words d 0; table = record_words k; count = 1 }
-one_read t (Next.Refused e line d) = record { status = number_of e; cursor = cursor_words d (reason_of e); table = t; count = 0 }
-one_read t (Next.Done d) = record { status = 255; cursor = cursor_words d 0; table = t; count = 0 }
+one_read t (Next.Command k d) = record { status = 0; cursor = cursor_words d; table = record_words k; count = 1 }
+one_read t (Next.Refused e line d) = record { status = number_of e; cursor = cursor_words d; table = t; count = 0 }
+one_read t (Next.Done d) = record { status = 255; cursor = cursor_words d; table = t; count = 0 }
 
 unfoldable pub next_call : List ℕ → List ℕ → List ℕ → Left
 next_call s w t = cond (eqb (length t) 9) (on_cursor (λ c. one_read t (next_from s c)) (kept w t 0) (cursor_of w)) (kept w t 0)
@@ -52,18 +52,12 @@ read_status ReadEnded.Full = 0
 read_status ReadEnded.Whole = 255
 read_status (ReadEnded.Refused e line) = number_of e
 
--- the reason, where the answer is 9
-abbrev pub read_reason : ReadEnded → ℕ
-read_reason ReadEnded.Full = 0
-read_reason ReadEnded.Whole = 0
-read_reason (ReadEnded.Refused e line) = reason_of e
-
 abbrev pub many_read : List ℕ → List ℕ → Cursor → Left
 many_read s t c =
     let o : ReadOutcome = read_of s c t in
     record {
       status = read_status o.ended;
-      cursor = cursor_words o.cursor (read_reason o.ended);
+      cursor = cursor_words o.cursor;
       table = read_filled o.commands t;
       count = length o.commands;
     }
@@ -85,23 +79,16 @@ abbrev pub header_status : HeaderEnded → ℕ
 header_status HeaderEnded.Whole = 0
 header_status (HeaderEnded.Refused e line) = number_of e
 
-abbrev pub header_reason : HeaderEnded → ℕ
-header_reason HeaderEnded.Whole = 0
-header_reason (HeaderEnded.Refused e line) = reason_of e
-
--- what was read of a header, into the table t
-abbrev pub header_told : List ℕ → HeaderOutcome → HeaderLeft
-header_told t o =
+abbrev pub header_read : List ℕ → List ℕ → Cursor → HeaderLeft
+header_read s t c =
+    let o : HeaderOutcome = header_of s c t in
     let a : HeaderAnswer = header_answer o in
     record {
       status = header_status a.ended;
-      cursor = cursor_words a.cursor (header_reason a.ended);
+      cursor = cursor_words a.cursor;
       rows = header_filled o.rows t;
       head = head_words a.header a.count;
     }
-
-abbrev pub header_read : List ℕ → List ℕ → Cursor → HeaderLeft
-header_read s t c = header_told t (header_of s c t)
 
 abbrev pub header_on : (Cursor → HeaderLeft) → HeaderLeft → CursorRead → HeaderLeft
 header_on f x (CursorRead.Is c) = f c

@@ -1,17 +1,17 @@
 // The reading calls of the library for C and Rust, over numbers and lent arrays alone: commands, headers, names, and the rows of headers
 // and listings. Each answers OK or the number of a refusal; reading answers DONE at the end. State travels as words that the caller keeps
 // (crate vcd_state); an array of the wrong length, or words that are no state, are refused by BAD_PLACE with nothing changed.
+#![tactic(auto)]
+
 ghost use Rattle.std.specs.Prelude.{◌≡◌, ◌+◌, ◌*◌, ◌≤◌, length, take, drop};
-ghost use Rattle.find.specs.Find.{found as found_row, found_in};
+ghost use Rattle.find.specs.Find.{found as found_row};
 ghost use Rattle.find.specs.declared.Kind.{Kind};
 ghost use Rattle.read_calls.specs.Reading.{
   next_call,
   read_call,
   read_status,
-  read_reason,
   header_call_of,
   header_status,
-  header_reason,
   row_status,
   row_copied,
   is_row_call,
@@ -22,7 +22,7 @@ ghost use Rattle.read_calls.specs.Reading.{
 
 use change::Change;
 use find::FoundRow;
-use rows::{Row, RowNumber};
+use rows::Row;
 use vcd_state::CursorRead;
 
 const OK: u64 = 0;
@@ -49,7 +49,7 @@ pub fn next(input: &[u8], cursor: &mut [u64], words: &mut [u64]) -> u64
             let a = records::read(input, c, words);
             let d = a.cursor;
             let ended = a.ended;
-            vcd_state::put_cursor(cursor, d, read_reason(ended));
+            vcd_state::put_cursor(cursor, d);
             read_status(ended)
         }
         CursorRead::Bad => BAD_PLACE,
@@ -68,7 +68,7 @@ pub fn read(input: &[u8], cursor: &mut [u64], records: &mut [u64], count: &mut u
             let a = records::read(input, c, records);
             let d = a.cursor;
             let ended = a.ended;
-            vcd_state::put_cursor(cursor, d, read_reason(ended));
+            vcd_state::put_cursor(cursor, d);
             *count = a.count as u64;
             read_status(ended)
         }
@@ -83,16 +83,6 @@ fn read_status(e: records::Ended) -> u64
         records::Ended::Full => OK,
         records::Ended::Whole => DONE,
         records::Ended::Refused(r, _) => r.number(),
-    }
-}
-
-fn read_reason(e: records::Ended) -> u64
-    ensures { result ≡ read_reason e }
-{
-    match e {
-        records::Ended::Full => 0,
-        records::Ended::Whole => 0,
-        records::Ended::Refused(r, _) => r.reason(),
     }
 }
 
@@ -112,7 +102,7 @@ pub fn header(input: &[u8], cursor: &mut [u64], rows: &mut [u64], head: &mut [u6
             let d = a.cursor;
             let kept = a.header;
             let ended = a.ended;
-            vcd_state::put_cursor(cursor, d, header_reason(ended));
+            vcd_state::put_cursor(cursor, d);
             vcd_state::put_head(head, kept, a.count);
             header_status(ended)
         }
@@ -120,21 +110,12 @@ pub fn header(input: &[u8], cursor: &mut [u64], rows: &mut [u64], head: &mut [u6
     }
 }
 
-pub fn header_status(e: header::Ended) -> u64
+fn header_status(e: header::Ended) -> u64
     ensures { result ≡ header_status e }
 {
     match e {
         header::Ended::Whole => OK,
         header::Ended::Refused(r, _) => r.number(),
-    }
-}
-
-pub fn header_reason(e: header::Ended) -> u64
-    ensures { result ≡ header_reason e }
-{
-    match e {
-        header::Ended::Whole => 0,
-        header::Ended::Refused(r, _) => r.reason(),
     }
 }
 
@@ -183,24 +164,6 @@ pub fn find_var(input: &[u8], rows: &[u64], count: usize, path: &[u8], row: &mut
     ensures row { row.new ≡ found_after row.old (found_row input.now Kind.Var rows.now count path.now) }
 {
     found(find::find_var(input, rows, count, path), row)
-}
-
-// The row of the variable of this reference directly in the scope of row `scope`; NONE where there is none. A refusal leaves `row` as it was.
-pub fn find_var_in(
-    input: &[u8],
-    rows: &[u64],
-    count: usize,
-    scope: u64,
-    reference: &[u8],
-    row: &mut u64,
-) -> u64
-    ensures status { result ≡ found_status (found_in input.now rows.now count scope reference.now) }
-    ensures row { row.new ≡ found_after row.old (found_in input.now rows.now count scope reference.now) }
-{
-    found(
-        find::find_var_in(input, rows, count, RowNumber(scope), reference),
-        row,
-    )
 }
 
 fn found(f: FoundRow, row: &mut u64) -> u64

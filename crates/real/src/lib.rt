@@ -1,4 +1,6 @@
 // The form of a real's text: an optional sign, then a name or digits with at most one point, then an optional exponent.
+#![tactic(auto)]
+
 ghost use Rattle.std.specs.Prelude.{◌≡◌, length, map};
 ghost use Rattle.text.specs.Bytes.{equal};
 ghost use Rattle.real.specs.Real.{is_real, is_named, is_decimal, is_exponent, digits_in, lower_case, unsigned as unsigned_of};
@@ -15,7 +17,7 @@ pub fn is_real(s: &[u8]) -> bool
 }
 
 // The text behind a sign, or all of it where it has none.
-pub fn unsigned(s: &[u8]) -> &[u8]
+fn unsigned(s: &[u8]) -> &[u8]
     ensures { result.now ≡ unsigned_of s.now }
 {
     if s.len() == 0 {
@@ -32,7 +34,7 @@ pub fn unsigned(s: &[u8]) -> &[u8]
 }
 
 // `inf`, `infinity` or `nan`, in any letter case.
-pub fn is_named(s: &[u8]) -> bool
+fn is_named(s: &[u8]) -> bool
     ensures { result ≡ is_named s.now }
 {
     if equals_lower(s, b"inf") {

@@ -1,4 +1,6 @@
 // One command as nine words, for callers that share numbers alone, and the command that nine words are.
+#![tactic(auto)]
+
 pub mod used;
 
 ghost use Rattle.std.specs.Prelude.{◌≡◌, ◌+◌, ◌*◌, ◌≤◌, length};
@@ -14,14 +16,14 @@ use timescale::TimescaleUnit;
 use value::Value;
 
 // A record by value; none where there is none, or where the words are no command.
-#[derive(Drop)]
+#[derive(Clone, Copy)]
 pub enum Recorded {
     Is(Command),
     None,
 }
 
 // A record's words in a table's order; those that its kind does not use are 0.
-#[derive(Drop)]
+#[derive(Clone, Copy)]
 pub struct RecordWords {
     // One of the kinds below.
     pub kind: u64,

@@ -1,4 +1,6 @@
 // Commands read into a lent table of records, one after another.
+#![tactic(auto)]
+
 ghost use Rattle.std.specs.Prelude.{◌≡◌, ◌+◌, ◌*◌, ◌≤◌, length};
 ghost use Rattle.fast.specs.Fast.{Hits};
 ghost use Rattle.parser.specs.Next.{next_from};
@@ -16,14 +18,14 @@ use token::Cursor;
 use value::Value;
 
 // How a run of reading ended: no room for one more, the end of the input, or a refusal and the line of it.
-#[derive(Drop)]
+#[derive(Clone, Copy)]
 pub enum Ended {
     Full,
     Whole,
     Refused(Refusal, u64),
 }
 
-#[derive(Drop)]
+#[derive(Clone, Copy)]
 pub struct ReadAnswer {
     pub cursor: Cursor,
     pub count: usize,
@@ -75,7 +77,7 @@ fn answer(cursor: Cursor, count: usize, ended: Ended) -> ReadAnswer
 }
 
 // Where a run stands, and the count of records.
-#[derive(Drop)]
+#[derive(Clone, Copy)]
 struct Reached {
     cursor: Cursor,
     count: usize,
@@ -96,13 +98,13 @@ fn fast_run(input: &[u8], c: Cursor, records: &mut [u64], n: usize) -> Reached
         match fast::parse_short(input, place) {
             Fast::Time(t, end) => {
                 let b = input[end];
-                record::put_at(records, at, record::timestamp_words(t.0));
+                record::put_at(records, at, record::timestamp_words(t));
                 cur = token::word_read(cur, end, b);
             }
             Fast::Scalar(i, end) => {
                 let b = input[end];
                 let v = Value::number_at(input[place]);
-                record::put_at(records, at, record::scalar_words(v, i.0));
+                record::put_at(records, at, record::scalar_words(v, i));
                 cur = token::word_read(cur, end, b);
             }
             _ => {
@@ -121,7 +123,7 @@ fn so_far(cursor: Cursor, count: usize) -> Reached
 }
 
 // One command read into its record, or how reading ends.
-#[derive(Drop)]
+#[derive(Clone, Copy)]
 enum Step {
     // The place of the blank that ends it.
     Hit(usize),
@@ -159,18 +161,18 @@ fn step_fast(input: &[u8], c: Cursor, records: &mut [u64], n: usize) -> Step
     let at = c.place;
     match fast_command(input, at) {
         Fast::Time(t, end) => {
-            record::put(records, n, record::timestamp_words(t.0));
+            record::put(records, n, record::timestamp_words(t));
             Step::Hit(end)
         }
         Fast::Scalar(i, end) => {
             let v = Value::number_at(input[at]);
-            record::put(records, n, record::scalar_words(v, i.0));
+            record::put(records, n, record::scalar_words(v, i));
             Step::Hit(end)
         }
         Fast::Vector(i, stop, end) => {
             let start = at + 1;
             let len = stop - start;
-            record::put(records, n, record::vector_words(i.0, Text { start, len }));
+            record::put(records, n, record::vector_words(i, Text { start, len }));
             Step::Hit(end)
         }
         Fast::Miss => step_var(&input[0..], again(c), records, n),

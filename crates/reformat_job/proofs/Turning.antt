@@ -10,7 +10,6 @@ use lib.ListN.{length, length-append}
 use Rattle.command.specs.Meaning.{Meaning}
 use Rattle.command.specs.Refusals.{number_of}
 use Rattle.command.specs.declared.Refusal.{Refusal}
-use Rattle.command.proofs.Refusals.{number-range}
 use Rattle.header.specs.Header.{Outcome as Heading, header_of, nothing}
 use Rattle.header.specs.declared.Ended.{Ended as HeaderEnded}
 use Rattle.lines.specs.Lines.{taken as input_limit, header_rows, long_line, refused_line}
@@ -189,9 +188,36 @@ module _ (s table : List ℕ) (low : length s ≤ input_limit) (c : Cursor) (w :
       (next-stands o.cursor o.writer (length o.bytes) o.ended y.0 y.1, joined (joins s lent_bytes (commands s c) lent_bytes w c (omega arith) (honest s c) refl))
 
 -- ---- the last line has room
+number_small : (e : Refusal) → number_of e ≤ 25
+number_small Refusal.UnexpectedEof = omega arith
+number_small Refusal.InvalidUtf8 = omega arith
+number_small Refusal.UnexpectedCharacter = omega arith
+number_small Refusal.TokenTooLong = omega arith
+number_small Refusal.ExpectedEndCommand = omega arith
+number_small Refusal.UnmatchedEnd = omega arith
+number_small Refusal.UnknownCommand = omega arith
+number_small Refusal.UnexpectedHeaderCommand = omega arith
+number_small Refusal.ParseIntError = omega arith
+number_small Refusal.ParseFloatError = omega arith
+number_small Refusal.InvalidTimescaleUnit = omega arith
+number_small Refusal.InvalidScopeType = omega arith
+number_small Refusal.InvalidVarType = omega arith
+number_small Refusal.InvalidReferenceIndex = omega arith
+number_small Refusal.InvalidValueChar = omega arith
+number_small Refusal.IdEmpty = omega arith
+number_small Refusal.IdInvalidChars = omega arith
+number_small Refusal.IdTooLong = omega arith
+number_small Refusal.TooDeep = omega arith
+number_small Refusal.TableFull = omega arith
+number_small Refusal.NoRoom = omega arith
+number_small Refusal.NotWritable = omega arith
+number_small Refusal.BadTable = omega arith
+number_small Refusal.ListFull = omega arith
+number_small Refusal.BadPlace = omega arith
+
 line-room : (e : Refusal) (n : ℕ) → n ≤ input_limit + 1 → length (refused_line (number_of e) n) ≤ lent_bytes
 line-room e n h =
-    let a : length (decimal_of (number_of e)) ≤ 2 = short 1 (number_of e) (omega (arith, number-range e)) in
+    let a : length (decimal_of (number_of e)) ≤ 2 = short 1 (number_of e) (omega (arith, number_small e)) in
     let b : length (decimal_of n) ≤ 5 = short 4 n (omega arith) in
     simp length-append (omega arith)
 

@@ -1,5 +1,7 @@
 // A dump written anew, a turn at a time: each turn puts bytes at the start of a lent buffer and answers the state that the next one
 // starts from.
+#![tactic(auto)]
+
 ghost use Rattle.std.specs.Prelude.{◌≡◌, false, length};
 ghost use Rattle.command.specs.Refusals.{number_of};
 ghost use Rattle.lines.specs.Lines.{refused_line};
@@ -22,7 +24,7 @@ pub const LENT: usize = 65536;
 
 // Where the turns stand: before the header, after some commands, before the line of a refusal, or at the end, after the whole dump or
 // not.
-#[derive(Drop)]
+#[derive(Clone, Copy)]
 pub enum State {
     Begin,
     Commands(Cursor, Writer),
@@ -31,7 +33,7 @@ pub enum State {
 }
 
 // How many bytes a turn put, and the state then.
-#[derive(Drop)]
+#[derive(Clone, Copy)]
 pub struct Turn {
     pub count: usize,
     pub next: State,

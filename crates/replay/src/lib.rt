@@ -1,5 +1,7 @@
 // What the replay programs share: the stream of cases that they read, and the canonical form of docs/ORACLE.md that they print.
 // Nothing is promised of these but that they are safe and end: what they print is held to the oracle's answers.
+#![tactic(auto)]
+
 pub mod line;
 
 ghost use Rattle.std.specs.Prelude.{◌≤◌, ◌<◌};
@@ -12,7 +14,7 @@ use text::Text;
 pub use text::least;
 
 // The bytes of a case, by place; or the end of the stream.
-#[derive(Drop)]
+#[derive(Clone, Copy)]
 pub enum Case {
     At(Text),
     End,
@@ -67,7 +69,7 @@ pub fn after(input: &[u8], t: Text) -> usize {
 }
 
 // The next case of a stream that is read a buffer at a time, and how many bytes of the buffer are filled.
-#[derive(Drop)]
+#[derive(Clone, Copy)]
 pub struct Fed {
     pub case: Case,
     pub have: usize,
@@ -164,7 +166,7 @@ pub fn number_in(s: &[u8]) -> u64 {
     let n = number::parse_u64(s);
     match n {
         Number::Is(v) => v,
-        Number::Refused(_) => 0,
+        Number::Refused => 0,
     }
 }
 

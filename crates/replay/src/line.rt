@@ -1,5 +1,5 @@
 // The canonical form: lines of a name, words and a text.
-use command::{Open, Refusal, SimulationCommand};
+use command::{Open, SimulationCommand};
 use console::{front, put, put_byte};
 use scope::{ReferenceIndex, ScopeType, VarType};
 use text::{Spelled, Text};
@@ -49,7 +49,7 @@ const NAMES: [u8; 129] =
     *b"comment date version timescale scope upscope var enddefinitions time scalar vector real string begin end done refused header none";
 
 // A line: its name, and what stands after it, each where there is one.
-#[derive(Drop)]
+#[derive(Clone, Copy)]
 pub struct Line {
     pub name: u64,
     pub kind: Word,
@@ -60,12 +60,11 @@ pub struct Line {
 }
 
 // A word by what it means.
-#[derive(Drop)]
+#[derive(Clone, Copy)]
 pub enum Word {
     None,
     Dash,
     Number(u64),
-    Refusal(Refusal),
     Scope(ScopeType),
     Var(VarType),
     Unit(TimescaleUnit),
@@ -75,7 +74,7 @@ pub enum Word {
 }
 
 // A text as its bytes, or as values in lower case.
-#[derive(Drop)]
+#[derive(Clone, Copy)]
 pub enum Shown {
     None,
     Text(Text),
@@ -132,7 +131,6 @@ fn spell(w: Word) -> Spelled {
         Word::None => text::spell(b""),
         Word::Dash => text::spell(b"-"),
         Word::Number(n) => number::decimal(n),
-        Word::Refusal(e) => spell_refusal(e),
         Word::Scope(k) => k.spell(),
         Word::Var(k) => k.spell(),
         Word::Unit(u) => u.spell(),
@@ -140,19 +138,6 @@ fn spell(w: Word) -> Spelled {
         Word::Value(v) => spell_byte(v.byte()),
         Word::Index(x) => spell_index(x),
     }
-}
-
-// The page's number; 9 with its reason after a point.
-fn spell_refusal(e: Refusal) -> Spelled {
-    let spelled = number::decimal(e.number());
-    let reason = e.reason();
-    if reason == 0 {
-        return spelled;
-    }
-    text::join(
-        text::join(spelled, text::spell(b".")),
-        number::decimal(reason),
-    )
 }
 
 fn spell_byte(b: u8) -> Spelled {

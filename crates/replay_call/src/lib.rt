@@ -1,8 +1,8 @@
 // One call of the writer made twice on outputs filled beforehand: by its own method and by `command`. Both must answer and write the
-// same, and leave every byte that is not theirs. A header's call and a scope's are made once. Nothing is promised of these but that they
-// are safe and end.
+// same, and leave every byte that is not theirs. A header's call is made once. Nothing is promised of these but that they are safe and end.
+#![tactic(auto)]
+
 use command::{Command, Open, Refusal};
-use rows::RowNumber;
 use vcd_state::HeadRead;
 use write::{Added, Writer, Written};
 use write_header::HeaderWritten;
@@ -11,7 +11,7 @@ use write_header::HeaderWritten;
 const MARK: u8 = 0xff;
 
 // An answer: the refusal's number or 0, the count, the state afterwards, and the id that was given or 0.
-#[derive(Drop)]
+#[derive(Clone, Copy)]
 pub struct Outcome {
     pub refusal: u64,
     pub count: usize,
@@ -52,7 +52,7 @@ fn of_added(w: Writer, r: Added) -> Outcome {
     }
 }
 
-// A header or a scope that is refused may have written commands before.
+// A header that is refused may have written commands before.
 fn of_header(r: HeaderWritten) -> Outcome {
     match r {
         HeaderWritten::Bytes(count, state) => Outcome {
@@ -103,19 +103,6 @@ pub fn by_header(w: Writer, src: &[u8], head: &[u64], rows: &[u64], out: &mut [u
         HeadRead::Is(h, n) => of_header(write_header::header(w, src, h, rows, n, out)),
         HeadRead::Bad => refused(w, 25),
     }
-}
-
-// Fills the output and makes a scope's call, over the words of a table.
-pub fn by_scope(
-    w: Writer,
-    src: &[u8],
-    rows: &[u64],
-    count: usize,
-    row: u64,
-    out: &mut [u8],
-) -> Outcome {
-    fill(out);
-    of_header(write_header::scope(w, src, rows, count, RowNumber(row), out))
 }
 
 fn add_module(w: Writer, src: &[u8], k: Command, out: &mut [u8]) -> Written {

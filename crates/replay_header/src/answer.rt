@@ -201,7 +201,7 @@ fn ended_line(e: Ended, c: Cursor) -> Line {
     match e {
         Ended::Whole => placed_line(line::HEADER, Word::Number(c.line), Word::None, c),
         Ended::Refused(r, at) => {
-            placed_line(line::REFUSED, Word::Refusal(r), Word::Number(at), c)
+            placed_line(line::REFUSED, Word::Number(r.number()), Word::Number(at), c)
         }
     }
 }

@@ -1,6 +1,8 @@
-// Reads dumps as cases on standard input (docs/ORACLE.md), after a line `list`, `reformat` or `verdict`, and prints what that program
-// prints for each. A further such line begins a further stream of cases. Its stored input and output are the oracle's recorded samples of
-// the three programs, made by oracle/record from the crate's own answers.
+// Reads dumps as cases on standard input (docs/ORACLE.md), after a line `list` or `reformat`, and prints what that program prints for
+// each. A further such line begins a further stream of cases. Its stored input and output are the oracle's recorded samples of both
+// programs, made by oracle/record from the crate's own answers.
+#![tactic(auto)]
+
 ghost use Rattle.std.specs.Prelude.{◌≡◌, length};
 ghost use Rattle.list_job.specs.Turns.{lent};
 
@@ -13,11 +15,10 @@ fn main() {
     replay::finish(answer_all(&mut input, &mut out, &mut lent));
 }
 
-#[derive(Drop)]
+#[derive(Clone, Copy)]
 enum Program {
     List,
     Reformat,
-    Verdict,
     None,
 }
 
@@ -84,9 +85,6 @@ fn named(line: &[u8]) -> Program {
     if text::equals(line, b"reformat") {
         return Program::Reformat;
     }
-    if text::equals(line, b"verdict") {
-        return Program::Verdict;
-    }
     Program::None
 }
 
@@ -94,7 +92,6 @@ fn is_none(program: Program) -> bool {
     match program {
         Program::List => false,
         Program::Reformat => false,
-        Program::Verdict => false,
         Program::None => true,
     }
 }
@@ -110,10 +107,6 @@ fn answer(program: Program, dump: &[u8], number: u64, out: &mut [u8], lent: &mut
         }
         Program::Reformat => {
             let p = job::print_reformat(dump, lent);
-            p.written
-        }
-        Program::Verdict => {
-            let p = job::print_strict(dump);
             p.written
         }
         Program::None => true,

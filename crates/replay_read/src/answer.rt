@@ -11,7 +11,7 @@ use token::Cursor;
 const STOP: u64 = 4;
 
 // One answer of the reader: the line that shows it, the reader's line and cursor then, and how much it counts.
-#[derive(Drop)]
+#[derive(Clone, Copy)]
 struct Shows {
     line: Line,
     at: u64,
@@ -49,7 +49,7 @@ fn answer_of(next: Next) -> Shows
             counts: 0,
         },
         Next::Refused(e, at, cursor) => Shows {
-            line: line::worded(line::REFUSED, Word::Refusal(e)),
+            line: line::worded(line::REFUSED, Word::Number(e.number())),
             at,
             cursor,
             counts: 1,

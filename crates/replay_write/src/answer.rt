@@ -8,7 +8,7 @@ use text::{Spelled, Text};
 use write::Writer;
 
 // The state after a call, and the place after its answer.
-#[derive(Drop)]
+#[derive(Clone, Copy)]
 struct Step {
     state: Writer,
     at: usize,
@@ -86,9 +86,6 @@ fn answer_on(
     if call == HEADER {
         return answer_header(w, src, line, one, out, at);
     }
-    if call == SCOPE {
-        return answer_scope(w, src, line, one, out, at);
-    }
     let next = w.id;
     let k = script::command_of(line, next);
     let a = replay_call::by_method(w, src, call, k, one);
@@ -104,10 +101,8 @@ fn answer_on(
     }
 }
 
-// The numbers of a header's call and of a scope's, and the words of a head.
+// The number of a header's call, and the words of a head.
 const HEADER: u64 = 19;
-
-const SCOPE: u64 = 20;
 
 const HEAD: usize = 10;
 
@@ -148,45 +143,6 @@ fn answer_table(
     }
 }
 
-// A scope's line has its row, the count of rows and the table.
-fn answer_scope(
-    w: Writer,
-    src: &[u8],
-    line: &[u8],
-    one: &mut [u8],
-    out: &mut [u8],
-    at: usize,
-) -> Step {
-    let mut words = table();
-    let n = script::numbers_from(line, 4, &mut words);
-    answer_rows(w, src, line, &words, n, one, out, at)
-}
-
-fn answer_rows(
-    w: Writer,
-    src: &[u8],
-    line: &[u8],
-    words: &[u64],
-    count: usize,
-    one: &mut [u8],
-    out: &mut [u8],
-    at: usize,
-) -> Step {
-    let all = replay::least(count, words.len());
-    let row = script::number_at(line, 2);
-    let asked = script::number_at(line, 3) as usize;
-    let a = replay_call::by_scope(w, src, &words[..all], asked, row, one);
-    let o = put_outcome(out, at, SCOPE, a, one);
-    let state = a.state;
-    if replay_call::is_marked(one, a.count) {
-        return Step { state, at: o };
-    }
-    Step {
-        state,
-        at: put(out, o, b"spoilt\n"),
-    }
-}
-
 // Room for the longest table of a case.
 fn table() -> [u64; 1024]
     ensures { 1024 ≡ length result }
@@ -199,7 +155,7 @@ fn put_outcome(out: &mut [u8], at: usize, call: u64, a: Outcome, bytes: &[u8]) -
     if 0 < a.refusal {
         let p = put(out, o, b" refused");
         let q = put_number(out, p, a.refusal);
-        if HEADER <= call {
+        if call == HEADER {
             return put_written(out, q, call, a, bytes);
         }
         return put_byte(out, q, b'\n');
@@ -220,8 +176,8 @@ fn put_written(out: &mut [u8], at: usize, call: u64, a: Outcome, bytes: &[u8]) -
 }
 
 // The calls' names, each the word of its call's number.
-const NAMES: [u8; 187] =
-    *b" comment date version timescale scope_def add_module upscope var_def add_var add_wire enddefinitions timestamp change_scalar change_vector change_real change_string begin end header scope";
+const NAMES: [u8; 181] =
+    *b" comment date version timescale scope_def add_module upscope var_def add_var add_wire enddefinitions timestamp change_scalar change_vector change_real change_string begin end header";
 
 // Two calls answer the id that they gave.
 fn given(call: u64, id: u64) -> Spelled {

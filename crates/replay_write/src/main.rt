@@ -1,5 +1,7 @@
 // Reads cases on standard input (docs/ORACLE.md) and prints what each call of their scripts answers and writes. Its stored input and
 // output are the oracle's recorded sample, made by oracle/record from the crate's own answers.
+#![tactic(auto)]
+
 mod answer;
 
 ghost use Rattle.std.specs.Prelude.{◌≡◌, length};

@@ -17,7 +17,7 @@ use Rattle.rewrite.specs.Rewrite.{Outcome, meanings_in, rewritten, rewrite_of}
 abbrev pub Takes : Writer → ℕ → List Meaning → Outcome → Type 0
 Takes w room ms x = (x.bytes ≡ layouts (taken w room ms)) × (x.writer ≡ states_after w (taken w room ms))
 
-pub takes : (s : List ℕ) (room : ℕ) (w : Writer) (c : Cursor) (ks : Commands) → Takes w room (meanings_in s ks) (rewritten s room w c ks)
+takes : (s : List ℕ) (room : ℕ) (w : Writer) (c : Cursor) (ks : Commands) → Takes w room (meanings_in s ks) (rewritten s room w c ks)
 unfolding rewritten meanings_in taken layouts states_after
 takes s room w c (command k d more) =
     let m : Meaning = meaning s k in

@@ -11,9 +11,7 @@ use Rattle.text.specs.declared.Placed.{Placed}
 use Rattle.value.specs.Values.{lower}
 use Rattle.value.proofs.Values.{lower-byte}
 use Rattle.command.specs.Meaning.{meaning}
-use Rattle.idcode.specs.declared.IdCode.{IdCode}
 use Rattle.command.specs.declared.Command.{Command}
-use Rattle.command.specs.declared.Time.{Time}
 use Rattle.parser.specs.Next.{next_from}
 use Rattle.parser_part.specs.declared.Next.{Next}
 use Rattle.token.specs.Flat.{word_read}
@@ -32,15 +30,15 @@ use Rattle.rewrite.specs.Rewrite.{wrote_of, step_of, as_slow, Inside, laid_of}
 use Rattle.rewrite.specs.declared.Step.{Step}
 use Rattle.rewrite.proofs.Turn.{command-placed, Steps, Answers, command-steps}
 
-known : (i : IdCode) → i.0 < 2 ^ 64 - 1 → is_id i ≡ true
-known i h = id-some i (λ q. omega (arith, q))
+known : (i : ℕ) → i < 2 ^ 64 - 1 → is_id (record { 0 = i }) ≡ true
+known i h = id-some (record { 0 = i }) (λ q. omega (arith, q))
 
 -- the cursor may be moved after a word that ends at e
 pub may-move : (s : List ℕ) (c : Cursor) → Valid s c → (e : ℕ) → e < length s → (e < limit) × (c.line ≤ limit + 1)
 may-move s c v e h = (omega (arith, v.short), omega (arith, v.counted, v.within, v.short))
 
 -- a vector has a value
-some : (s : List ℕ) (at stop e : ℕ) (i : IdCode) → ReadsVector s at stop e i → length (part s (values_at at stop)) ≡ 0 → ⊥
+some : (s : List ℕ) (at stop e i : ℕ) → ReadsVector s at stop e i → length (part s (values_at at stop)) ≡ 0 → ⊥
 unfolding part
 some s at stop e i x z =
     let h : stop - (at + 1) ≤ length (drop (at + 1) s) = omega (arith, length-drop (at + 1) s, x.before, x.change.inside) in
@@ -89,17 +87,17 @@ module _ (s o : List ℕ) (c : Cursor) (w : Writer) (v : Valid s c) (e : ℕ) (r
       (laid_out _ _ _ _ _ (command-placed s c (word_read c e (get_or s e 0)) k n) may refl put same is) in
       (y.0, rw q (laid-inside s c w e x.inside p), y.1)
 
-  pub time-steps : (t : Time) → Reads s c.place e (Command.Timestamp t) → Laid (time_text t.0) o p left → Answers s o c w r left
+  pub time-steps : (t : ℕ) → Reads s c.place e (Command.Timestamp (record { 0 = t })) → Laid (time_text t) o p left → Answers s o c w r left
   unfolding state_after layout
   time-steps t x put = steps _ x put refl refl refl
 
-  pub scalar-steps : (i : IdCode) → ReadsScalar s c.place e i → Laid (scalar_text (lower (get_or s c.place 0)) i.0) o p left → Answers s o c w r left
+  pub scalar-steps : (i : ℕ) → ReadsScalar s c.place e i → Laid (scalar_text (lower (get_or s c.place 0)) i) o p left → Answers s o c w r left
   unfolding state_after layout
   scalar-steps i x put =
       let name = lower-byte (get_or s c.place 0) x.value x.means in
       steps _ x.change put (rw (known i x.id)) refl (rw (name))
 
-  pub vector-steps : (i : IdCode) (stop : ℕ) → ReadsVector s c.place stop e i → Laid (vector_text (part s (values_at c.place stop)) i.0) o p left → Answers s o c w r left
+  pub vector-steps : (i stop : ℕ) → ReadsVector s c.place stop e i → Laid (vector_text (part s (values_at c.place stop)) i) o p left → Answers s o c w r left
   unfolding state_after layout
   vector-steps i stop x put =
       let t = values_at c.place stop in

@@ -1,4 +1,6 @@
 // Commands read and written anew, as many as one output has room for: the work of one turn of a program that rewrites a dump.
+#![tactic(auto)]
+
 ghost use Rattle.std.specs.Prelude.{◌≡◌, length, ◌+◌, ◌≤◌, ◌<◌};
 ghost use Rattle.fast.specs.Fast.{Hits};
 ghost use Rattle.parser.specs.Next.{next_from};
@@ -9,20 +11,21 @@ ghost use Rattle.text.specs.Texts.{limit};
 use command::Refusal;
 use fast::Fast;
 use fast_var::FastVar;
+use idcode::IdCode;
 use parser::Next;
 use text::Placed;
 use token::Cursor;
 use write::{Writer, Written};
 
 // How it ended: at the end of the input, or by a refusal of reading or writing and the reader's line then.
-#[derive(Drop)]
+#[derive(Clone, Copy)]
 pub enum Ended {
     Whole,
     Refused(Refusal, u64),
 }
 
 // The cursor after the last command that was written or refused by the reader, the writer's state, and how many bytes were written.
-#[derive(Drop)]
+#[derive(Clone, Copy)]
 pub struct Rewritten {
     pub cursor: Cursor,
     pub writer: Writer,
@@ -31,7 +34,7 @@ pub struct Rewritten {
 }
 
 // One command written, with its bytes, the state and the cursor then; or how it ends.
-#[derive(Drop)]
+#[derive(Clone, Copy)]
 enum Step {
     // A hit: the place of the blank that ends it, and the bytes written; the state is as it was.
     Hit(usize, usize),
@@ -108,16 +111,16 @@ fn step_fast(input: &[u8], c: Cursor, w: Writer, out: &mut [u8]) -> Step
     let at = c.place;
     match fast_command(input, at) {
         Fast::Time(t, end) => {
-            let p = emit::emit_time(t.0, out);
+            let p = emit::emit_time(t, out);
             laid(p, c, end, input[end])
         }
         Fast::Scalar(i, end) => {
             let v = value::vector::lowered(input[at]);
-            let p = emit::emit_scalar(v, i, out);
+            let p = emit::emit_scalar(v, IdCode(i), out);
             laid(p, c, end, input[end])
         }
         Fast::Vector(i, stop, end) => {
-            let p = emit::emit_vector(&input[at + 1..stop], i, out);
+            let p = emit::emit_vector(&input[at + 1..stop], IdCode(i), out);
             laid(p, c, end, input[end])
         }
         Fast::Miss => step_var(&input[0..], again(c), state_again(w), out),

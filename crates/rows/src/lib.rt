@@ -1,4 +1,6 @@
 // The rows of a header's table, ten words each, and how they are read and stored.
+#![tactic(auto)]
+
 pub mod peek;
 
 ghost use Rattle.std.specs.Prelude.{◌≡◌, ◌+◌, ◌*◌, ◌≤◌, ◌<◌, cond, eqb, length};
@@ -10,18 +12,18 @@ use scope::{ReferenceIndex, ScopeType, Var, VarType};
 use text::Text;
 
 // A row's number in its table, from 0.
-#[derive(Drop)]
+#[derive(Clone, Copy)]
 pub struct RowNumber(pub u64);
 
 // The scope that a row stands in.
-#[derive(Drop)]
+#[derive(Clone, Copy)]
 pub enum Parent {
     Top,
     Of(RowNumber),
 }
 
 // A row by value; none where there is none, or where the words are no row.
-#[derive(Drop)]
+#[derive(Clone, Copy)]
 pub enum Row {
     Scope(Parent, ScopeType, Text),
     Var(Parent, Var),
@@ -30,7 +32,7 @@ pub enum Row {
 }
 
 // A row's words in a table's order; those that its kind does not use are 0.
-#[derive(Drop)]
+#[derive(Clone, Copy)]
 pub struct RowWords {
     // SCOPE, VAR or COMMENT.
     pub kind: u64,

@@ -140,13 +140,13 @@ index-begins (ReferenceIndex.Range a b) g = refl
 -- ---- what a text is read as: an index, and its numbers have 32 bits
 one-read : (x : ReferenceIndex) (s : List ℕ) (n : Signed) → padded s ≡ n → bit n ≡ ParsedIndex.Is x → Given x × SizedIndex x
 one-read x s (Signed.Is a) p e = let q : ReferenceIndex.BitSelect a ≡ x = cc in rw (sym q) (tt, padded-fits s a p)
-one-read x s (Signed.Refused r) p e = absurd (let z : ◌≡◌ {A = ℕ} 0 1 = cc in omega arith)
+one-read x s Signed.Refused p e = absurd (let z : ◌≡◌ {A = ℕ} 0 1 = cc in omega arith)
 
 two-read : (x : ReferenceIndex) (s t : List ℕ) (n m : Signed) → padded s ≡ n → padded t ≡ m → range n m ≡ ParsedIndex.Is x → Given x × SizedIndex x
 two-read x s t (Signed.Is a) (Signed.Is b) p q e =
     let i : ReferenceIndex.Range a b ≡ x = cc in rw (sym i) (tt, (padded-fits s a p, padded-fits t b q))
-two-read x s t (Signed.Is a) (Signed.Refused r) p q e = absurd (let z : ◌≡◌ {A = ℕ} 0 1 = cc in omega arith)
-two-read x s t (Signed.Refused r) m p q e = absurd (let z : ◌≡◌ {A = ℕ} 0 1 = cc in omega arith)
+two-read x s t (Signed.Is a) Signed.Refused p q e = absurd (let z : ◌≡◌ {A = ℕ} 0 1 = cc in omega arith)
+two-read x s t Signed.Refused m p q e = absurd (let z : ◌≡◌ {A = ℕ} 0 1 = cc in omega arith)
 
 inside-read : (x : ReferenceIndex) (m : List ℕ) → parse_inside m ≡ ParsedIndex.Is x → Given x × SizedIndex x
 unfolding parse_inside

@@ -16,12 +16,12 @@ padded l = parse_signed (part l (trimmed l))
 
 abbrev pub bit : Signed → ParsedIndex
 bit (Signed.Is a) = ParsedIndex.Is (ReferenceIndex.BitSelect a)
-bit (Signed.Refused e) = ParsedIndex.Invalid
+bit Signed.Refused = ParsedIndex.Invalid
 
 abbrev pub range : Signed → Signed → ParsedIndex
 range (Signed.Is a) (Signed.Is b) = ParsedIndex.Is (ReferenceIndex.Range a b)
-range (Signed.Is a) (Signed.Refused e) = ParsedIndex.Invalid
-range (Signed.Refused e) b = ParsedIndex.Invalid
+range (Signed.Is a) Signed.Refused = ParsedIndex.Invalid
+range Signed.Refused b = ParsedIndex.Invalid
 
 -- the bytes before the first x, or all where there is none
 unfoldable pub up_to_byte : ℕ → List ℕ → List ℕ

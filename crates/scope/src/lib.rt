@@ -1,4 +1,6 @@
 // Scopes and variables: types, indexes and the record of a variable (scope.rs of vcd 0.7.0).
+#![tactic(auto)]
+
 mod names;
 
 ghost use Rattle.std.specs.Prelude.{◌≡◌, length, take, ◌≤◌};
@@ -13,7 +15,7 @@ use number::Signed;
 use text::{Spelled, Text};
 
 // A type of scope, as used in the `$scope` command.
-#[derive(Drop)]
+#[derive(Clone, Copy)]
 pub enum ScopeType {
     Module,
     Task,
@@ -22,7 +24,7 @@ pub enum ScopeType {
     Fork,
 }
 
-#[derive(Drop)]
+#[derive(Clone, Copy)]
 pub enum ParsedScopeType {
     Is(ScopeType),
     Invalid,
@@ -90,7 +92,7 @@ impl ScopeType {
 }
 
 // A type of variable, as used in the `$var` command.
-#[derive(Drop)]
+#[derive(Clone, Copy)]
 pub enum VarType {
     Event,
     Integer,
@@ -112,14 +114,14 @@ pub enum VarType {
     String,
 }
 
-#[derive(Drop)]
+#[derive(Clone, Copy)]
 pub enum ParsedVarType {
     Is(VarType),
     Invalid,
 }
 
 // A type, its name and how many bytes that has; after the name stand zeros.
-#[derive(Drop)]
+#[derive(Clone, Copy)]
 pub struct VarName {
     pub var_type: VarType,
     pub name: [u8; 9],
@@ -323,14 +325,14 @@ impl VarType {
 }
 
 // Index of a variable's reference: none, a bit `[n]` or a range `[n:m]`.
-#[derive(Drop)]
+#[derive(Clone, Copy)]
 pub enum ReferenceIndex {
     None,
     BitSelect(i32),
     Range(i32, i32),
 }
 
-#[derive(Drop)]
+#[derive(Clone, Copy)]
 pub enum ParsedIndex {
     Is(ReferenceIndex),
     Invalid,
@@ -361,7 +363,7 @@ impl ReferenceIndex {
         if colon == s.len() {
             return match number_in(s) {
                 Signed::Is(n) => ParsedIndex::Is(ReferenceIndex::BitSelect(n)),
-                Signed::Refused(_) => ParsedIndex::Invalid,
+                Signed::Refused => ParsedIndex::Invalid,
             };
         }
         let Signed::Is(msb) = number_in(&s[..colon]) else {
@@ -425,7 +427,7 @@ fn spell_range(msb: i32, lsb: i32) -> Spelled
 }
 
 // Information on a variable as represented by a `$var` command.
-#[derive(Drop)]
+#[derive(Clone, Copy)]
 pub struct Var {
     pub var_type: VarType,
     pub size: u32,

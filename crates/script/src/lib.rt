@@ -1,5 +1,7 @@
 // The calls of a write case as they are written: lines of words, and the commands that the words mean (docs/ORACLE.md, "A write
 // case"). Nothing is promised of these but that they are safe and end.
+#![tactic(auto)]
+
 use command::{Command, Open, SimulationCommand, Time};
 use idcode::IdCode;
 use number::{Number32, Signed};
@@ -32,7 +34,7 @@ fn narrow_at(line: &[u8], k: u64) -> u32 {
     let n = number::parse_u32(word(line, k));
     match n {
         Number32::Is(v) => v,
-        Number32::Refused(_) => 0,
+        Number32::Refused => 0,
     }
 }
 
@@ -40,7 +42,7 @@ fn signed_at(line: &[u8], k: u64) -> i32 {
     let n = number::parse_i32(word(line, k));
     match n {
         Signed::Is(v) => v,
-        Signed::Refused(_) => 0,
+        Signed::Refused => 0,
     }
 }
 
@@ -80,7 +82,7 @@ pub fn open_at(line: &[u8], k: u64) -> Open {
 }
 
 // The words at which a call's line has its number, its type, its text and its index. No line has a tenth word.
-#[derive(Drop)]
+#[derive(Clone, Copy)]
 struct Places {
     number: u64,
     kind: u64,

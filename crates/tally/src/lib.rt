@@ -1,4 +1,6 @@
 // A reading loop over the parser: how many commands there are up to the end or the first refusal.
+#![tactic(auto)]
+
 ghost use Rattle.std.specs.Prelude.{◌≡◌};
 ghost use Rattle.tally.specs.Count.{count_from};
 
@@ -6,7 +8,7 @@ use command::Refusal;
 use parser::Next;
 use token::Cursor;
 
-#[derive(Drop)]
+#[derive(Clone, Copy)]
 pub enum Count {
     All(u64, Cursor),
     Stopped(Refusal, u64, u64, Cursor),

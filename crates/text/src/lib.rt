@@ -1,31 +1,33 @@
 // Texts as places in a lent buffer, and what Rust's `str` did for the crate: whitespace, equality, short texts by value.
+#![tactic(auto)]
+
 ghost use Rattle.std.specs.Prelude.{◌≡◌, true, [], ◌∷◌, ◌++◌, length, take, drop, ◌+◌, ◌≤◌, ◌<◌, min};
 ghost use Rattle.text.specs.Bytes.{is_blank, equal, starts};
 ghost use Rattle.text.specs.Plain.{Plain};
 ghost use Rattle.text.specs.Texts.{is_within, outside as is_outside, part as part_of, spelled, text_in, put_answer, put_bytes};
 
 // A text is a place in a lent buffer.
-#[derive(Drop)]
+#[derive(Clone, Copy)]
 pub struct Text {
     pub start: usize,
     pub len: usize,
 }
 
 // A short text by value: its bytes, then zeros.
-#[derive(Drop)]
+#[derive(Clone, Copy)]
 pub struct Spelled {
     pub bytes: [u8; 32],
     pub len: usize,
 }
 
-#[derive(Drop)]
+#[derive(Clone, Copy)]
 pub enum Found {
     At(usize),
     Nothing,
 }
 
 // How many bytes were put at a buffer's start. Where they had no room, nothing changed.
-#[derive(Drop)]
+#[derive(Clone, Copy)]
 pub enum Placed {
     Count(usize),
     NoRoom,

@@ -1,5 +1,5 @@
--- IEEE 1364's units of time: their names, how many make a second, and how many of one a tick may be.
-use Rattle.std.specs.Prelude.{ℕ, ◌^◌, Bool, ◌||◌, eqb}
+-- IEEE 1364's units of time: their names, and how many make a second.
+use Rattle.std.specs.Prelude.{ℕ, ◌^◌}
 use Prim.Native.String.{String}
 use Rattle.timescale.specs.declared.TimescaleUnit.{TimescaleUnit}
 
@@ -18,7 +18,3 @@ per_second TimescaleUnit.US = 10 ^ 6
 per_second TimescaleUnit.NS = 10 ^ 9
 per_second TimescaleUnit.PS = 10 ^ 12
 per_second TimescaleUnit.FS = 10 ^ 15
-
--- a timescale's number is 1, 10 or 100
-unfoldable pub is_quantity : ℕ → Bool
-is_quantity n = eqb n 1 || eqb n 10 || eqb n 100

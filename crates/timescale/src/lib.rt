@@ -1,8 +1,10 @@
 // Units of time for the `$timescale` command (timescale.rs of vcd 0.7.0).
+#![tactic(auto)]
+
 ghost use Rattle.std.specs.Prelude.{◌≡◌};
 ghost use Rattle.text.specs.Bytes.{bytes};
 ghost use Rattle.text.specs.Texts.{spelled};
-ghost use Rattle.timescale.specs.Ieee.{unit_name, per_second, is_quantity};
+ghost use Rattle.timescale.specs.Ieee.{unit_name, per_second};
 ghost use Rattle.timescale.specs.Units.{parse_unit, seconds};
 ghost use Rattle.timescale.specs.Numbers.{unit_number, unit_of};
 
@@ -21,7 +23,7 @@ const PICO: [u8; 2] = *b"ps";
 
 const FEMTO: [u8; 2] = *b"fs";
 
-#[derive(Drop)]
+#[derive(Clone, Copy)]
 pub enum TimescaleUnit {
     S,
     MS,
@@ -31,23 +33,10 @@ pub enum TimescaleUnit {
     FS,
 }
 
-#[derive(Drop)]
+#[derive(Clone, Copy)]
 pub enum ParsedUnit {
     Is(TimescaleUnit),
     Invalid,
-}
-
-// Whether the standard has this number in a timescale; reading takes any.
-pub fn is_quantity(n: u32) -> bool
-    ensures { result ≡ is_quantity n }
-{
-    if n == 1 {
-        return true;
-    }
-    if n == 10 {
-        return true;
-    }
-    n == 100
 }
 
 impl TimescaleUnit {

@@ -1,5 +1,7 @@
 // Reading bytes, tokens and texts (parser.rs of vcd 0.7.0, its first half): a cursor by value beside the lent input. These are parts
 // of `parser`, which hands over valid cursors alone; users call that.
+#![tactic(auto)]
+
 ghost use Rattle.std.specs.Prelude.{◌≡◌, ◌+◌, ◌-◌, ◌≤◌, ◌<◌, min, length, take, drop};
 ghost use Rattle.token.specs.Read.{Valid, next_line, byte_read, end_read, after, rest, word, skipped, values_in, Bound, most, values, beyond, token, word_here, text_from};
 ghost use Rattle.token.specs.Flat.{word_read, word_end_read, first_passed};
@@ -10,7 +12,7 @@ use text::{Found, Text};
 
 // Where reading stands: the next byte's place, the line of the last byte read, whether that byte was a newline, and the simulation
 // command that is open.
-#[derive(Drop)]
+#[derive(Clone, Copy)]
 pub struct Cursor {
     pub place: usize,
     pub line: u64,
@@ -18,7 +20,7 @@ pub struct Cursor {
     pub sim: Open,
 }
 
-#[derive(Drop)]
+#[derive(Clone, Copy)]
 pub enum Token {
     Word(Text, Cursor),
     Refused(Refusal, Cursor),

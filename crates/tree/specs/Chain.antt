@@ -1,5 +1,5 @@
 -- The open scopes as a chain of parents in the table itself: what the private functions that judge a table promise.
-use Rattle.std.specs.Prelude.{ℕ, zero, suc, ◌+◌, ◌-◌, ◌≤◌, ◌<◌, ◌≡◌, Bool, false, ◌&&◌, List, [], ◌∷◌, eqb, ltb}
+use Rattle.std.specs.Prelude.{ℕ, zero, suc, ◌+◌, ◌-◌, ◌≤◌, ◌<◌, ◌≡◌, Bool, false, ◌&&◌, List, [], ◌∷◌, eqb}
 use Rattle.scope.specs.Limits.{most_levels}
 use Rattle.rows.specs.Good.{open_to, is_good_from}
 use Rattle.rows.specs.Rows.{top, parent_of, row_at, rows_from}
@@ -17,10 +17,6 @@ parent_at table i = parent_in (row_at table i)
 -- is row i a variable of the scope p?
 abbrev pub is_var_of : List ℕ → ℕ → ℕ → Bool
 is_var_of table i p = eqb (kind_of (row_at table i)) 2 && eqb (parent_at table i) p
-
--- is row i one of the first n, and a scope?
-abbrev pub is_scope_at : List ℕ → ℕ → ℕ → Bool
-is_scope_at table n i = ltb i n && eqb (kind_of (row_at table i)) 1
 
 -- d scopes, innermost first, of which the first is `cur` and each next is the parent of the one before
 unfoldable pub chain : List ℕ → ℕ → ℕ → List ℕ

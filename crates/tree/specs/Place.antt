@@ -1,6 +1,6 @@
 -- Rows with a text outside their buffer: what 25 asks of a table.
 use Rattle.std.specs.Prelude.{ℕ, Bool, false, not, ◌||◌, List, [], ◌∷◌}
-use Rattle.text.specs.Texts.{is_within, too_long}
+use Rattle.text.specs.Texts.{is_within}
 use Rattle.rows.specs.declared.Row.{Row}
 
 abbrev pub row_outside : List ℕ → Row → Bool
@@ -12,7 +12,3 @@ row_outside s Row.None = false
 unfoldable pub some_outside : List ℕ → List Row → Bool
 some_outside s [] = false
 some_outside s (r ∷ rs) = row_outside s r || some_outside s rs
-
--- 25 of a table: its buffer is over the limit, or one of its rows has a text outside it
-abbrev pub rows_misplaced : List ℕ → List Row → Bool
-rows_misplaced s rs = too_long s || some_outside s rs

@@ -1,12 +1,12 @@
 // Whether a table of rows is good (23): its rows are rows, in tree order, not too many and not too deep.
+#![tactic(auto)]
+
 pub mod place;
 
 ghost use Rattle.std.specs.Prelude.{◌≡◌, ◌≤◌, ◌<◌};
 ghost use Rattle.rows.specs.Good.{is_good_table};
 ghost use Rattle.rows.specs.Rows.{rows_of, top};
-ghost use Rattle.tree.specs.Chain.{parent_at, is_var_of, is_scope_at, base, Under, Unwound, Stands};
-
-use rows::RowNumber;
+ghost use Rattle.tree.specs.Chain.{parent_at, is_var_of, base, Under, Unwound, Stands};
 
 // The parent's word of row i; TOP where there is no such row.
 pub fn parent_at(rows: &[u64], i: usize) -> u64
@@ -22,23 +22,15 @@ pub fn is_var_of(rows: &[u64], i: usize, p: u64) -> bool
     rows::peek::kind_at(rows, i) == rows::VAR && rows::peek::parent_at(rows, i) == p
 }
 
-// Whether row i is one of the first `n`, and a scope.
-pub fn is_scope(rows: &[u64], n: usize, i: RowNumber) -> bool
-    ensures { result ≡ is_scope_at rows.now n i.0 }
-{
-    let at = i.0 as usize;
-    at < n && rows::peek::kind_at(rows, at) == rows::SCOPE
-}
-
 // The innermost open scope, or TOP, and how many are open. The others are its parent, that one's parent and so on.
-#[derive(Drop)]
+#[derive(Clone, Copy)]
 struct Spot {
     cur: u64,
     depth: usize,
 }
 
 // Whether a row may stand where it does, and the scopes that are open after it.
-#[derive(Drop)]
+#[derive(Clone, Copy)]
 enum Stood {
     On(Spot),
     Off,

@@ -1,7 +1,7 @@
 // Whether the texts of a table's rows lie in their buffer: what 25 asks of rows.
 ghost use Rattle.std.specs.Prelude.{◌≡◌, ◌/◌, ◌<◌, length};
 ghost use Rattle.rows.specs.Rows.{row_at, rows_of};
-ghost use Rattle.tree.specs.Place.{row_outside, some_outside, rows_misplaced};
+ghost use Rattle.tree.specs.Place.{row_outside, some_outside};
 
 use text::Text;
 
@@ -36,14 +36,4 @@ pub fn some_outside(src: &[u8], rows: &[u64], count: usize) -> bool
         i += 1;
     }
     false
-}
-
-// 25: the source is over the limit, or one of the first `count` rows has a text outside it.
-pub fn misplaced(src: &[u8], rows: &[u64], count: usize) -> bool
-    ensures { result ≡ rows_misplaced src.now (rows_of rows.now count) }
-{
-    if text::LIMIT < src.len() {
-        return true;
-    }
-    some_outside(src, rows, count)
 }

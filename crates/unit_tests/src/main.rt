@@ -1,5 +1,7 @@
 // The crate's own unit tests (value.rs, idcode.rs, scope.rs): their inputs, and what is answered. The stored output is what the crate
 // itself answers to them, printed by oracle/src/bin/units.rs.
+#![tactic(auto)]
+
 use idcode::{Following, IdCode, InvalidIdCode, Parsed};
 use replay::{put, put_byte, put_number, put_text, put_word};
 use scope::{ParsedIndex, ReferenceIndex};

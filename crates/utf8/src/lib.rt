@@ -1,9 +1,11 @@
 // UTF-8: which byte texts are well formed, as Rust's from_utf8 judges.
+#![tactic(auto)]
+
 ghost use Rattle.std.specs.Prelude.{◌≡◌, List, [], ◌∷◌, ℕ, ◌≤◌, length, drop};
 ghost use Rattle.utf8.specs.Utf8.{table37, due_after, well_formed, valid_utf8, due_from, due_list, ◌to◌};
 
 // How many bytes of a character are still due, and the range of the next of them.
-#[derive(Drop)]
+#[derive(Clone, Copy)]
 pub struct Due {
     pub more: u8,
     pub low: u8,

@@ -1,4 +1,6 @@
 // Values: four-state logic (value.rs of vcd 0.7.0). Vectors, in a module of their own, are texts of values.
+#![tactic(auto)]
+
 pub mod vector;
 
 ghost use Rattle.std.specs.Prelude.{◌≡◌};
@@ -6,7 +8,7 @@ ghost use Rattle.value.specs.Values.{value_of, value_text, of_bool, value_byte};
 ghost use Rattle.value.specs.Numbers.{value_number, value_for, number_meant};
 
 // A four-valued logic scalar value.
-#[derive(Drop)]
+#[derive(Clone, Copy)]
 pub enum Value {
     V0,
     V1,
@@ -14,7 +16,7 @@ pub enum Value {
     Z,
 }
 
-#[derive(Drop)]
+#[derive(Clone, Copy)]
 pub enum ParsedValue {
     Is(Value),
     Invalid,

@@ -6,14 +6,14 @@ ghost use Rattle.value.specs.Values.{is_value, are_values, bit_at, lower, lower_
 use crate::{ParsedValue, Value};
 use text::Placed;
 
-#[derive(Drop)]
+#[derive(Clone, Copy)]
 pub enum Bit {
     Is(Value),
     None,
 }
 
 // How many bytes were written at a buffer's start. In the other cases nothing changed.
-#[derive(Drop)]
+#[derive(Clone, Copy)]
 pub enum Written {
     Count(usize),
     InvalidValue,

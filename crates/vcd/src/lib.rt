@@ -1,9 +1,9 @@
-// The library for C and Rust: its twenty-four calls, each that of `read_calls`, `list_calls`, `write_calls`, `real_calls` or
-// `strict_calls`, over numbers and lent arrays alone.
-ghost use Rattle.std.specs.Prelude.{◌≡◌, length};
-ghost use Rattle.codes.specs.Codes.{codes_in, index_of};
-ghost use Rattle.find.specs.Find.{found as found_row, found_in};
-ghost use Rattle.float.specs.Float.{real_answer};
+// The library for C and Rust: its fifteen calls, each that of `read_calls`, `list_calls` or `write_calls`, over numbers and lent arrays
+// alone.
+#![tactic(auto)]
+
+ghost use Rattle.std.specs.Prelude.{◌≡◌};
+ghost use Rattle.find.specs.Find.{found as found_row};
 ghost use Rattle.find.specs.declared.Kind.{Kind};
 ghost use Rattle.idcode.specs.Id.{parse_id};
 ghost use Rattle.list_calls.specs.Listings.{list_call, list_on_call};
@@ -18,13 +18,10 @@ ghost use Rattle.read_calls.specs.Reading.{
   found_status,
   found_after,
 };
-ghost use Rattle.real_calls.specs.Reals.{real_status, kind_after, number_after};
-ghost use Rattle.strict_calls.specs.Strict.{strict_header_call, strict_next_call, strict_list_call, strict_rewrite_call, verdict_call};
 ghost use Rattle.widen.specs.Widen.{widen_answer, widen_bytes};
 ghost use Rattle.write_calls.specs.Writing.{
   command_call,
   write_header_call,
-  write_scope_call,
   rewrite_call,
   widen_status,
   widen_count,
@@ -116,22 +113,6 @@ pub extern "C" fn vcd_find_var(
     read_calls::find_var(input, rows, count, path, row)
 }
 
-// The row of the variable of this reference directly in the scope of row `scope`; NONE where there is none.
-#[unsafe(no_mangle)]
-pub extern "C" fn vcd_find_var_in(
-    input: &[u8],
-    rows: &[u64],
-    count: usize,
-    scope: u64,
-    reference: &[u8],
-    row: &mut u64,
-) -> u64
-    ensures status { result ≡ found_status (found_in input.now rows.now count scope reference.now) }
-    ensures row { row.new ≡ found_after row.old (found_in input.now rows.now count scope reference.now) }
-{
-    read_calls::find_var_in(input, rows, count, scope, reference, row)
-}
-
 // Writes the command of a record, whose texts stand in `src`, and counts its bytes.
 #[unsafe(no_mangle)]
 pub extern "C" fn vcd_command(
@@ -165,25 +146,6 @@ pub extern "C" fn vcd_write_header(
     ensures count { count.new ≡ (write_header_call writer.old src.now head.now rows.now out.old count.old).count }
 {
     write_calls::write_header(writer, src, head, rows, out, count)
-}
-
-// Writes the scope of row `row`, one of the first `n` rows, with all that is in it.
-#[unsafe(no_mangle)]
-pub extern "C" fn vcd_write_scope(
-    writer: &mut [u64],
-    src: &[u8],
-    rows: &[u64],
-    n: usize,
-    row: u64,
-    out: &mut [u8],
-    count: &mut u64,
-) -> u64
-    ensures status { result ≡ (write_scope_call writer.old src.now rows.now n row out.old count.old).status }
-    ensures writer { writer.new ≡ (write_scope_call writer.old src.now rows.now n row out.old count.old).writer }
-    ensures out { out.new ≡ (write_scope_call writer.old src.now rows.now n row out.old count.old).output }
-    ensures count { count.new ≡ (write_scope_call writer.old src.now rows.now n row out.old count.old).count }
-{
-    write_calls::write_scope(writer, src, rows, n, row, out, count)
 }
 
 // Rewrites commands from the cursor on, as many as the output has room for; counts bytes, and stores the line of a refusal.
@@ -268,22 +230,6 @@ pub extern "C" fn vcd_widen(
     write_calls::widen(input, start, len, width, out, count)
 }
 
-// What the text of a real is: a number, or a text.
-#[unsafe(no_mangle)]
-pub extern "C" fn vcd_real(
-    input: &[u8],
-    start: usize,
-    len: usize,
-    kind: &mut u64,
-    number: &mut f64,
-) -> u64
-    ensures status { result ≡ real_status (real_answer input.now (record { start = start; len = len })) }
-    ensures kind { kind.new ≡ kind_after kind.old (real_answer input.now (record { start = start; len = len })) }
-    ensures number { number.new ≡ number_after number.old (real_answer input.now (record { start = start; len = len })) }
-{
-    real_calls::real(input, start, len, kind, number)
-}
-
 // Writes the text of an id code, and counts its bytes.
 #[unsafe(no_mangle)]
 pub extern "C" fn vcd_id_text(code: u64, out: &mut [u8], count: &mut u64) -> u64
@@ -301,119 +247,4 @@ pub extern "C" fn vcd_id_code(text: &[u8], code: &mut u64) -> u64
     ensures code { code.new ≡ code_after code.old (parse_id text.now) }
 {
     write_calls::id_code(text, code)
-}
-
-// Fills an index of the first `n` rows, for the calls below.
-#[unsafe(no_mangle)]
-pub extern "C" fn vcd_index(rows: &[u64], n: usize, index: &mut [u64]) -> u64
-    ensures status { result ≡ 0 }
-    ensures index { index.new ≡ index_of rows.now n (length index.old) }
-{
-    strict_calls::index(rows, n, index)
-}
-
-// Reads a header into rows of ten words, and what it keeps into ten words.
-#[unsafe(no_mangle)]
-pub extern "C" fn vcd_strict_header(
-    input: &[u8],
-    cursor: &mut [u64],
-    rows: &mut [u64],
-    head: &mut [u64],
-) -> u64
-    ensures status { result ≡ (strict_header_call input.now cursor.old rows.old head.old).status }
-    ensures cursor { cursor.new ≡ (strict_header_call input.now cursor.old rows.old head.old).cursor }
-    ensures rows { rows.new ≡ (strict_header_call input.now cursor.old rows.old head.old).rows }
-    ensures head { head.new ≡ (strict_header_call input.now cursor.old rows.old head.old).head }
-{
-    strict_calls::header(input, cursor, rows, head)
-}
-
-// Reads the next command into a record of nine words, where the header has these rows: `since` is the last time before it, and afterwards
-// the last one.
-#[unsafe(no_mangle)]
-pub extern "C" fn vcd_strict_next(
-    input: &[u8],
-    cursor: &mut [u64],
-    since: &mut [u64],
-    rows: &[u64],
-    n: usize,
-    index: &[u64],
-    words: &mut [u64],
-) -> u64
-    ensures status { result ≡ (strict_next_call input.now (codes_in rows.now n) cursor.old since.old words.old).status }
-    ensures cursor { cursor.new ≡ (strict_next_call input.now (codes_in rows.now n) cursor.old since.old words.old).cursor }
-    ensures since { since.new ≡ (strict_next_call input.now (codes_in rows.now n) cursor.old since.old words.old).since }
-    ensures words { words.new ≡ (strict_next_call input.now (codes_in rows.now n) cursor.old since.old words.old).table }
-{
-    strict_calls::next(input, cursor, since, rows, n, index, words)
-}
-
-// Lists the changes of a code from the cursor on into rows of six words, and counts them, where the header has the `n` rows of `head`:
-// `since` is the last time before the cursor, and afterwards the last one that was read.
-#[unsafe(no_mangle)]
-pub extern "C" fn vcd_strict_list(
-    input: &[u8],
-    cursor: &mut [u64],
-    since: &mut [u64],
-    head: &[u64],
-    n: usize,
-    index: &[u64],
-    code: u64,
-    rows: &mut [u64],
-    count: &mut u64,
-) -> u64
-    ensures status { result ≡ (strict_list_call input.now (codes_in head.now n) cursor.old since.old code rows.old count.old).status }
-    ensures cursor { cursor.new ≡ (strict_list_call input.now (codes_in head.now n) cursor.old since.old code rows.old count.old).cursor }
-    ensures since { since.new ≡ (strict_list_call input.now (codes_in head.now n) cursor.old since.old code rows.old count.old).since }
-    ensures rows { rows.new ≡ (strict_list_call input.now (codes_in head.now n) cursor.old since.old code rows.old count.old).table }
-    ensures count { count.new ≡ (strict_list_call input.now (codes_in head.now n) cursor.old since.old code rows.old count.old).count }
-{
-    strict_calls::list(input, cursor, since, head, n, index, code, rows, count)
-}
-
-// Rewrites commands from the cursor on, as many as the output has room for; counts bytes, and stores the line of a refusal. `since` is the
-// last time before the cursor, and afterwards the last one that was written.
-#[unsafe(no_mangle)]
-pub extern "C" fn vcd_strict_rewrite(
-    input: &[u8],
-    cursor: &mut [u64],
-    since: &mut [u64],
-    rows: &[u64],
-    n: usize,
-    index: &[u64],
-    writer: &mut [u64],
-    out: &mut [u8],
-    count: &mut u64,
-    line: &mut u64,
-) -> u64
-    ensures status { result ≡ (strict_rewrite_call input.now (codes_in rows.now n) cursor.old since.old writer.old out.old count.old line.old).base.status }
-    ensures cursor { cursor.new ≡ (strict_rewrite_call input.now (codes_in rows.now n) cursor.old since.old writer.old out.old count.old line.old).base.cursor }
-    ensures since { since.new ≡ (strict_rewrite_call input.now (codes_in rows.now n) cursor.old since.old writer.old out.old count.old line.old).since }
-    ensures writer { writer.new ≡ (strict_rewrite_call input.now (codes_in rows.now n) cursor.old since.old writer.old out.old count.old line.old).base.writer }
-    ensures out { out.new ≡ (strict_rewrite_call input.now (codes_in rows.now n) cursor.old since.old writer.old out.old count.old line.old).base.output }
-    ensures count { count.new ≡ (strict_rewrite_call input.now (codes_in rows.now n) cursor.old since.old writer.old out.old count.old line.old).base.count }
-    ensures line { line.new ≡ (strict_rewrite_call input.now (codes_in rows.now n) cursor.old since.old writer.old out.old count.old line.old).base.line }
-{
-    strict_calls::rewrite(
-        input, cursor, since, rows, n, index, writer, out, count, line,
-    )
-}
-
-// The whole dump from its start: OK where it passes, else the first refusal. The header's rows are left in `rows` and counted, the index of
-// them in `index` where the header is whole, and the cursor tells where reading ended.
-#[unsafe(no_mangle)]
-pub extern "C" fn vcd_verdict(
-    input: &[u8],
-    rows: &mut [u64],
-    index: &mut [u64],
-    cursor: &mut [u64],
-    count: &mut u64,
-) -> u64
-    ensures status { result ≡ (verdict_call input.now rows.old index.old cursor.old count.old).status }
-    ensures rows { rows.new ≡ (verdict_call input.now rows.old index.old cursor.old count.old).rows }
-    ensures index { index.new ≡ (verdict_call input.now rows.old index.old cursor.old count.old).index }
-    ensures cursor { cursor.new ≡ (verdict_call input.now rows.old index.old cursor.old count.old).cursor }
-    ensures count { count.new ≡ (verdict_call input.now rows.old index.old cursor.old count.old).count }
-{
-    strict_calls::verdict(input, rows, index, cursor, count)
 }

@@ -1,5 +1,7 @@
 // Lists every change of every variable of the dump on standard input: reference, time, line, value. Reads, then has each turn of the
 // listing written, and tells the outcome.
+#![tactic(auto)]
+
 ghost use Rattle.std.specs.Prelude.{◌≡◌, ◌+◌, length};
 ghost use Rattle.lines.specs.Lines.{taken};
 ghost use Rattle.list_job.specs.Turns.{lent};

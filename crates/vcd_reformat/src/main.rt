@@ -1,4 +1,6 @@
 // Writes the dump on standard input anew: its header and its commands. Reads, then has each turn written, and tells the outcome.
+#![tactic(auto)]
+
 ghost use Rattle.std.specs.Prelude.{◌≡◌, length};
 ghost use Rattle.reformat_job.specs.Reformat.{lent_bytes};
 

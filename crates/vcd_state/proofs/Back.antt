@@ -34,9 +34,9 @@ open-back (Open.Of SimulationCommand.Dumpoff) = (refl, refl)
 open-back (Open.Of SimulationCommand.Dumpon) = (refl, refl)
 open-back (Open.Of SimulationCommand.Dumpvars) = (refl, refl)
 
-pub cursor-back : (c : Cursor) (reason : ℕ) → cursor_of (cursor_words c reason) ≡ CursorRead.Is c
+pub cursor-back : (c : Cursor) → cursor_of (cursor_words c) ≡ CursorRead.Is c
 unfolding cursor_of
-cursor-back c reason = rw ((bit-back c.pending).0, (bit-back c.pending).1, (open-back c.sim).0, (open-back c.sim).1) refl
+cursor-back c = rw ((bit-back c.pending).0, (bit-back c.pending).1, (open-back c.sim).0, (open-back c.sim).1) refl
 
 pub writer-back : (v : Writer) → writer_of (writer_words v) ≡ WriterRead.Is v
 unfolding writer_of

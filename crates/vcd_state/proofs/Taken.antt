@@ -14,17 +14,17 @@ use Rattle.vcd_state.specs.State.{cursor_of, writer_of, is_scale}
 use Rattle.vcd_state.specs.declared.CursorRead.{CursorRead}
 use Rattle.vcd_state.specs.declared.WriterRead.{WriterRead}
 
-abbrev Five : List ℕ → CursorRead → Type 0
-Five w (CursorRead.Is c) = length w ≡ 5
-Five w CursorRead.Bad = Unit {0}
+abbrev Four : List ℕ → CursorRead → Type 0
+Four w (CursorRead.Is c) = length w ≡ 4
+Four w CursorRead.Bad = Unit {0}
 
-pub cursor-five : (w : List ℕ) {r : CursorRead} {c : Cursor} → r ≡ cursor_of w → r ≡ CursorRead.Is c → length w ≡ 5
+pub cursor-four : (w : List ℕ) {r : CursorRead} {c : Cursor} → r ≡ cursor_of w → r ≡ CursorRead.Is c → length w ≡ 4
 unfolding cursor_of
-cursor-five w e h =
-    let a : Bool = eqb (length w) 5 in
+cursor-four w e h =
+    let a : Bool = eqb (length w) 4 in
     let b : Bool = leb (get_or w 2 0) 1 in
     let d : Bool = leb (get_or w 3 0) 4 in
-    let l : Five w (cursor_of w) = by-test (a && b && d) (λ t. rw t (eqb-true (length w) 5 (both a b (both (a && b) d t).0).0)) (λ t. rw t tt) in
+    let l : Four w (cursor_of w) = by-test (a && b && d) (λ t. rw t (eqb-true (length w) 4 (both a b (both (a && b) d t).0).0)) (λ t. rw t tt) in
     rw (sym e ∙ h) at l
 
 abbrev Three : List ℕ → WriterRead → Type 0

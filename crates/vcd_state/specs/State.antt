@@ -21,15 +21,14 @@ open_word (Open.Of k) = sim_number k + 1
 unfoldable pub open_of : ℕ → Open
 open_of w = cond (eqb w 0) Open.None (Open.Of (sim_of (w - 1)))
 
--- place, line, whether a newline is pending, the open simulation command, the reason of the last answer
-abbrev pub cursor_words : Cursor → ℕ → List ℕ
-cursor_words c reason = c.place ∷ c.line ∷ bit c.pending ∷ open_word c.sim ∷ reason ∷ []
+-- place, line, whether a newline is pending, the open simulation command
+abbrev pub cursor_words : Cursor → List ℕ
+cursor_words c = c.place ∷ c.line ∷ bit c.pending ∷ open_word c.sim ∷ []
 
--- the reason is not read
 unfoldable pub cursor_of : List ℕ → CursorRead
 cursor_of w =
     let word : ℕ → ℕ = λ j. get_or w j 0 in
-    cond (eqb (length w) 5 && leb (word 2) 1 && leb (word 3) 4)
+    cond (eqb (length w) 4 && leb (word 2) 1 && leb (word 3) 4)
     (CursorRead.Is (record { place = word 0; line = word 1; pending = eqb (word 2) 1; sim = open_of (word 3) }))
     CursorRead.Bad
 

@@ -1,6 +1,8 @@
-// The states that callers keep as words: the cursor (place, line, 1 where a newline is pending, the open simulation command, and the reason
-// of the last answer, where that was 9), the writer (depth, next id code, the open simulation command), and what a header keeps beside its
-// rows. An open simulation command is 0 for none, else one more than its type.
+// The states that callers keep as words: the cursor (place, line, 1 where a newline is pending, the open simulation command), the writer
+// (depth, next id code, the open simulation command), and what a header keeps beside its rows. An open simulation command is 0 for none,
+// else one more than its type.
+#![tactic(auto)]
+
 ghost use Rattle.std.specs.Prelude.{◌≡◌, [], ◌∷◌, ◌+◌, ◌≤◌, ◌<◌, ◌^◌, length};
 ghost use Rattle.emit.specs.Put.{stored};
 ghost use Rattle.vcd_state.specs.State.{
@@ -28,26 +30,26 @@ use timescale::TimescaleUnit;
 use token::Cursor;
 use write::Writer;
 
-#[derive(Drop)]
+#[derive(Clone, Copy)]
 pub enum CursorRead {
     Is(Cursor),
     Bad,
 }
 
-#[derive(Drop)]
+#[derive(Clone, Copy)]
 pub enum WriterRead {
     Is(Writer),
     Bad,
 }
 
 // What a header keeps, and how many rows it has.
-#[derive(Drop)]
+#[derive(Clone, Copy)]
 pub enum HeadRead {
     Is(Header, usize),
     Bad,
 }
 
-pub const CURSOR: usize = 5;
+pub const CURSOR: usize = 4;
 
 pub const WRITER: usize = 3;
 
@@ -71,7 +73,6 @@ fn open_word(o: Open) -> u64
     }
 }
 
-// A reason is told, never read: any fifth word is taken.
 pub fn cursor_of(w: &[u64]) -> CursorRead
     ensures { result ≡ cursor_of w.now }
 {
@@ -92,17 +93,15 @@ pub fn cursor_of(w: &[u64]) -> CursorRead
     })
 }
 
-pub fn put_cursor(w: &mut [u64], c: Cursor, reason: u64)
-    requires { length w.old ≡ 5 }
-    ensures { w.new ≡ cursor_words c reason }
+pub fn put_cursor(w: &mut [u64], c: Cursor)
+    requires { length w.old ≡ 4 }
+    ensures { w.new ≡ cursor_words c }
 {
     let sim = c.sim;
-    let open = open_word(sim);
     w[0] = c.place as u64;
     w[1] = c.line;
     w[2] = c.pending as u64;
-    w[3] = open;
-    w[4] = reason;
+    w[3] = open_word(sim);
 }
 
 pub fn writer_of(w: &[u64]) -> WriterRead

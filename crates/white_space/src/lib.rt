@@ -1,4 +1,6 @@
 // Trimming: Unicode's White_Space at both ends of a text.
+#![tactic(auto)]
+
 ghost use Rattle.std.specs.Prelude.{◌≡◌, cond, [], ◌∷◌, ◌≤◌, length, get_or, drop};
 ghost use Rattle.text.specs.Bytes.{starts};
 ghost use Rattle.white_space.specs.WhiteSpace.{blank_at, blanks, Before, kept_of, trimmed};

@@ -6,15 +6,15 @@ use mathlib.Core.List.{List, [], ◌∷◌, ◌++◌, append_assoc, append-nil, 
 use native.Mathlib.Omega.{arith}
 use borrow.Author.Tests.{le-leb, lt-leb}
 use lib.Dec.{leb}
-use lib.ListN.{length, get_or, take, drop, replicate, length-append, length-drop, length-map, length-replicate}
+use lib.ListN.{length, take, drop, replicate, length-append, length-drop, length-map, length-replicate}
 use lib.Seq.{take_at, drop_at, drop-drop, take-length, drop-length}
 use Rattle.command.specs.declared.Refusal.{Refusal}
 use Rattle.text.specs.Texts.{outside, part, put_answer, put_bytes}
 use Rattle.text.specs.declared.Text.{Text}
 use Rattle.text.proofs.Lists.{cond_same}
-use Rattle.value.specs.Values.{are_values, lower, lower_bytes, filled_with, value_byte, value_of}
+use Rattle.value.specs.Values.{are_values, lower, lower_bytes, filled_with}
 use Rattle.value.specs.declared.Value.{Value}
-use Rattle.widen.specs.Widen.{missing, fill_of, fill_in, widened, is_widenable, widen_answer, widen_bytes}
+use Rattle.widen.specs.Widen.{missing, widened, is_widenable, widen_answer, widen_bytes}
 use Rattle.widen.specs.declared.Widened.{Widened}
 
 -- ---- the parts that are judged
@@ -32,17 +32,6 @@ pub widenable-values : (v : List ℕ) → is_widenable v ≡ true → are_values
 unfolding is_widenable are_values
 widenable-values [] e = refl
 widenable-values (b ∷ v) e = e
-
--- ---- the fill, by the first byte
-pub fill_none : (v : List ℕ) → length v ≡ 0 → fill_of v ≡ Value.V0
-unfolding fill_of
-fill_none [] h = refl
-fill_none (b ∷ v) h = absurd (omega arith)
-
-pub fill-some : (v : List ℕ) → (length v ≡ 0 → ⊥) → fill_of v ≡ fill_in (value_of (get_or v 0 0))
-unfolding fill_of
-fill-some [] h = absurd (h refl)
-fill-some (b ∷ v) h = refl
 
 pub missing-wide : (width n : ℕ) → 1024 < width → missing width n ≡ 0
 unfolding missing
@@ -65,8 +54,7 @@ pub widened-length : (v : List ℕ) (width : ℕ) → length (widened v width) �
 unfolding widened
 widened-length v width =
     let n : ℕ = missing width (length v) in
-    let b : ℕ = value_byte (fill_of v) in
-    omega (arith, length-append (replicate {A = ℕ} n b) (map lower v), length-replicate {A = ℕ} n b, length-map v lower)
+    omega (arith, length-append (replicate {A = ℕ} n 48) (map lower v), length-replicate {A = ℕ} n 48, length-map v lower)
 
 pub widened-to : (v : List ℕ) (width : ℕ) → width ≤ 1024 → length v ≤ width → length (widened v width) ≡ width
 widened-to v width h g = omega (arith, widened-length v width, missing-narrow width (length v) h)
@@ -116,22 +104,21 @@ module _ (s : List ℕ) (t : Text) (width : ℕ) (out : List ℕ) where
         let n = widened-length v width in
         rw (h, sym q, g, le-leb (length (widened v width)) (length out) (omega arith), n) (refl, e)
 
-    -- the fill, of f, which leaves o, then p after it
-    pub widen-laid : (f : Value) (lack : ℕ) (o p left : List ℕ) → f ≡ fill_of v → lack ≡ missing width (length v) → is_widenable v ≡ true
-        → lack ≤ length out → length v ≤ length out - lack → o ≡ put_bytes (filled_with f lack) out
-        → p ≡ lower_bytes v (take (length o - lack) (drop lack o)) → left ≡ take lack o ++ (p ++ drop (length o - lack) (drop lack o))
-        → Leaves (Widened.Bytes (lack + length v)) left
+    -- the fill, which leaves o, then p after it
+    pub widen-laid : (fill : ℕ) (o p left : List ℕ) → fill ≡ missing width (length v) → is_widenable v ≡ true → fill ≤ length out
+        → length v ≤ length out - fill → o ≡ put_bytes (filled_with Value.V0 fill) out → p ≡ lower_bytes v (take (length o - fill) (drop fill o))
+        → left ≡ take fill o ++ (p ++ drop (length o - fill) (drop fill o)) → Leaves (Widened.Bytes (fill + length v)) left
     unfolding put_bytes widened
-    widen-laid f lack o p left is m g a b x y w =
-        let z : List ℕ = filled_with f lack in
-        let r : List ℕ = drop lack out in
-        let l : length z ≡ lack = length-replicate {A = ℕ} lack (value_byte f) in
-        let n : length (z ++ map lower v) ≡ lack + length v = omega (arith, length-append z (map lower v), length-map v lower) in
-        let o_is : o ≡ z ++ r = x ∙ rw (l, le-leb lack (length out) a) in
-        let all : widened v width ≡ z ++ map lower v = rw (sym m, sym is) in
+    widen-laid fill o p left m g a b x y w =
+        let z : List ℕ = filled_with Value.V0 fill in
+        let r : List ℕ = drop fill out in
+        let l : length z ≡ fill = length-replicate {A = ℕ} fill 48 in
+        let n : length (z ++ map lower v) ≡ fill + length v = omega (arith, length-append z (map lower v), length-map v lower) in
+        let o_is : o ≡ z ++ r = x ∙ rw (l, le-leb fill (length out) a) in
+        let all : widened v width ≡ z ++ map lower v = rw (sym m) in
         let laid : left ≡ z ++ (map lower v ++ drop (length v) r) =
-        w ∙ rw (y, o_is) (two-parts lack z r v l (widenable-values v g) (omega (arith, length-drop lack out))) in
+        w ∙ rw (y, o_is) (two-parts fill z r v l (widenable-values v g) (omega (arith, length-drop fill out))) in
         let e : left ≡ put_bytes (widened v width) out =
-        rw (all, n, le-leb (lack + length v) (length out) (omega arith), append_assoc z (map lower v) (drop (lack + length v) out))
-        (laid ∙ rw (drop-drop (length v) lack out)) in
+        rw (all, n, le-leb (fill + length v) (length out) (omega arith), append_assoc z (map lower v) (drop (fill + length v) out))
+        (laid ∙ rw (drop-drop (length v) fill out)) in
         rw m (widen-whole left g (omega (arith, m)) e)

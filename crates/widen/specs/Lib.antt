@@ -1,2 +1,1 @@
-pub mod Ieee
 pub mod Widen

@@ -1,5 +1,7 @@
 // The writer of value change dumps (write.rs of vcd 0.7.0): each call writes one command from the start of the lent output, and
 // answers how many bytes it wrote with the next state, or why it refused. A refused command changes no byte and no state.
+#![tactic(auto)]
+
 ghost use Rattle.std.specs.Prelude.{◌≡◌, [], ◌∷◌, ◌<◌};
 ghost use Rattle.command.specs.Words.{end_mark};
 ghost use Rattle.text.specs.Bytes.{bytes};
@@ -17,7 +19,7 @@ use timescale::TimescaleUnit;
 use value::Value;
 
 // The state, carried from call to call.
-#[derive(Drop)]
+#[derive(Clone, Copy)]
 pub struct Writer {
     // how many scopes are open
     pub depth: u64,
@@ -27,14 +29,14 @@ pub struct Writer {
     pub sim: Open,
 }
 
-#[derive(Drop)]
+#[derive(Clone, Copy)]
 pub enum Written {
     Bytes(usize, Writer),
     Refused(Refusal),
 }
 
 // What was written, with the id that was given.
-#[derive(Drop)]
+#[derive(Clone, Copy)]
 pub enum Added {
     Bytes(usize, Writer, IdCode),
     Refused(Refusal),

@@ -1,7 +1,7 @@
 -- What each writing call answers, and what it leaves in each lent array. An answer is 0 or the page's number of a refusal. 25 with nothing
 -- changed, where an array has the wrong length or its words are no state.
 use Rattle.std.specs.Prelude.{ℕ, ◌-◌, ◌^◌, cond, List, eqb, length}
-use Rattle.command.specs.Refusals.{number_of, reason_of, id_refusal}
+use Rattle.command.specs.Refusals.{number_of, id_refusal}
 use Rattle.idcode.specs.Id.{id_text}
 use Rattle.idcode.specs.declared.Parsed.{Parsed}
 use Rattle.widen.specs.declared.Widened.{Widened}
@@ -15,7 +15,7 @@ use Rattle.token.specs.declared.Cursor.{Cursor}
 use Rattle.write.specs.Call.{call}
 use Rattle.write.specs.declared.Writer.{Writer}
 use Rattle.write.specs.declared.Written.{Written}
-use Rattle.write_header.specs.Written.{Outcome as HeaderOutcome, header_call, scope_call}
+use Rattle.write_header.specs.Written.{header_call}
 use Rattle.write_header.specs.declared.HeaderWritten.{HeaderWritten}
 use Rattle.vcd_state.specs.State.{cursor_words, cursor_of, writer_words, writer_of, head_of}
 use Rattle.vcd_state.specs.declared.CursorRead.{CursorRead}
@@ -89,10 +89,6 @@ head_on w s t o n v HeadRead.Bad = unwritten 25 w o n
 unfoldable pub write_header_call : List ℕ → List ℕ → List ℕ → List ℕ → List ℕ → ℕ → WriteLeft
 write_header_call w s h t o n = writer_on (λ v. head_on w s t o n v (head_of h)) (unwritten 25 w o n) (writer_of w)
 
-unfoldable pub write_scope_call : List ℕ → List ℕ → List ℕ → ℕ → ℕ → List ℕ → ℕ → WriteLeft
-write_scope_call w s t m i o n =
-    writer_on (λ v. let x : HeaderOutcome = scope_call v s t m i o in wrote_header x.answer x.left) (unwritten 25 w o n) (writer_of w)
-
 -- ---- rewriting: both states, the output, the count, the line of a refusal
 pub record RewriteLeft : Type 0 where
   pub status : ℕ
@@ -109,29 +105,21 @@ abbrev pub rewrite_status : RewriteEnded → ℕ
 rewrite_status RewriteEnded.Whole = 0
 rewrite_status (RewriteEnded.Refused e line) = number_of e
 
--- the reason, where the answer is 9
-abbrev pub rewrite_reason : RewriteEnded → ℕ
-rewrite_reason RewriteEnded.Whole = 0
-rewrite_reason (RewriteEnded.Refused e line) = reason_of e
-
 abbrev pub line_after : ℕ → RewriteEnded → ℕ
 line_after l RewriteEnded.Whole = l
 line_after l (RewriteEnded.Refused e line) = line
 
--- what was rewritten, into the output o, where the line was l
-abbrev pub rewrite_told : List ℕ → ℕ → RewriteOutcome → RewriteLeft
-rewrite_told o l x =
+abbrev pub rewritten : List ℕ → List ℕ → ℕ → Cursor → Writer → RewriteLeft
+rewritten s o l c v =
+    let x : RewriteOutcome = rewrite_of s c v o in
     record {
       status = rewrite_status x.ended;
-      cursor = cursor_words x.cursor (rewrite_reason x.ended);
+      cursor = cursor_words x.cursor;
       writer = writer_words x.writer;
       output = rewrite_filled x.bytes o;
       count = length x.bytes;
       line = line_after l x.ended;
     }
-
-abbrev pub rewritten : List ℕ → List ℕ → ℕ → Cursor → Writer → RewriteLeft
-rewritten s o l c v = rewrite_told o l (rewrite_of s c v o)
 
 abbrev pub rewrite_on : (Cursor → Writer → RewriteLeft) → RewriteLeft → CursorRead → WriterRead → RewriteLeft
 rewrite_on f x (CursorRead.Is c) (WriterRead.Is v) = f c v

@@ -1,6 +1,8 @@
-// The writing calls of the library for C and Rust, over numbers and lent arrays alone: commands, headers, scopes, rewriting, vectors at a width
+// The writing calls of the library for C and Rust, over numbers and lent arrays alone: commands, headers, rewriting, vectors at a width
 // and id codes. Each answers OK or the number of a refusal. State travels as words that the caller keeps (crate vcd_state); an array of
 // the wrong length, or words that are no state, are refused by BAD_PLACE with nothing changed.
+#![tactic(auto)]
+
 ghost use Rattle.std.specs.Prelude.{◌≡◌, length};
 ghost use Rattle.idcode.specs.Id.{parse_id};
 ghost use Rattle.widen.specs.Widen.{widen_answer, widen_bytes};
@@ -10,13 +12,11 @@ ghost use Rattle.write_calls.specs.Writing.{
   written_state,
   written_count,
   write_header_call,
-  write_scope_call,
   head_status,
   head_state,
   head_count,
   rewrite_call,
   rewrite_status,
-  rewrite_reason,
   line_after,
   widen_status,
   widen_count,
@@ -30,7 +30,6 @@ ghost use Rattle.write_calls.specs.Writing.{
 use command::Refusal;
 use idcode::{IdCode, Parsed};
 use record::Recorded;
-use rows::RowNumber;
 use text::{Placed, Text};
 use vcd_state::{CursorRead, HeadRead, WriterRead};
 use widen::Widened;
@@ -117,31 +116,6 @@ pub fn write_header(
     }
 }
 
-// Writes the scope of row `row`, one of the first `n` rows, with all that is in it.
-pub fn write_scope(
-    writer: &mut [u64],
-    src: &[u8],
-    rows: &[u64],
-    n: usize,
-    row: u64,
-    out: &mut [u8],
-    count: &mut u64,
-) -> u64
-    ensures status { result ≡ (write_scope_call writer.old src.now rows.now n row out.old count.old).status }
-    ensures writer { writer.new ≡ (write_scope_call writer.old src.now rows.now n row out.old count.old).writer }
-    ensures out { out.new ≡ (write_scope_call writer.old src.now rows.now n row out.old count.old).output }
-    ensures count { count.new ≡ (write_scope_call writer.old src.now rows.now n row out.old count.old).count }
-{
-    match vcd_state::writer_of(writer) {
-        WriterRead::Is(w) => wrote_header(
-            write_header::scope(w, src, rows, n, RowNumber(row), out),
-            writer,
-            count,
-        ),
-        WriterRead::Bad => BAD_PLACE,
-    }
-}
-
 // Commands written before a refusal stay, and are counted.
 fn wrote_header(r: HeaderWritten, writer: &mut [u64], count: &mut u64) -> u64
     requires { length writer.old ≡ 3 }
@@ -186,7 +160,7 @@ pub fn rewrite(
                 let d = a.cursor;
                 let v = a.writer;
                 let ended = a.ended;
-                vcd_state::put_cursor(cursor, d, rewrite_reason(ended));
+                vcd_state::put_cursor(cursor, d);
                 vcd_state::put_writer(writer, v);
                 *count = a.count as u64;
                 rewrite_status(ended, line)
@@ -197,7 +171,7 @@ pub fn rewrite(
     }
 }
 
-pub fn rewrite_status(e: rewrite::Ended, line: &mut u64) -> u64
+fn rewrite_status(e: rewrite::Ended, line: &mut u64) -> u64
     ensures status { result ≡ rewrite_status e }
     ensures line { line.new ≡ line_after line.old e }
 {
@@ -207,15 +181,6 @@ pub fn rewrite_status(e: rewrite::Ended, line: &mut u64) -> u64
             *line = n;
             r.number()
         }
-    }
-}
-
-pub fn rewrite_reason(e: rewrite::Ended) -> u64
-    ensures { result ≡ rewrite_reason e }
-{
-    match e {
-        rewrite::Ended::Whole => 0,
-        rewrite::Ended::Refused(r, _) => r.reason(),
     }
 }
 

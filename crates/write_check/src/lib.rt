@@ -1,4 +1,6 @@
 // What refusal 22 asks of texts: remarks, names, reals and vectors that may be written.
+#![tactic(auto)]
+
 ghost use Rattle.std.specs.Prelude.{◌≡◌, ◌≤◌, ◌<◌, length, true, map};
 ghost use Rattle.text.specs.Bytes.{no_blank};
 ghost use Rattle.utf8.specs.Utf8.{valid_utf8};

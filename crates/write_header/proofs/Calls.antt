@@ -1,10 +1,9 @@
--- The rows from the first on, the whole header, and the refusals of one scope.
+-- The rows from the first on, and the whole header.
 use Prim.Native.Nat.{ℕ}
 use mathlib.Core.Path.{◌≡◌, refl, sym, ap, ◌∙◌}
-use mathlib.Core.Bool.{Bool, true, false, ◌&&◌}
+use mathlib.Core.Bool.{true, false}
 use mathlib.Core.List.{List, [], ◌∷◌, ◌++◌}
-use native.Mathlib.Omega.{arith}
-use Rattle.command.specs.Meaning.{Meaning, enddefinitions}
+use Rattle.command.specs.Meaning.{enddefinitions}
 use Rattle.command.specs.declared.Refusal.{Refusal}
 use Rattle.rows.specs.Good.{is_good_table}
 use Rattle.header.specs.Header.{inner}
@@ -13,14 +12,12 @@ use Rattle.header.specs.declared.Header.{Header}
 use Rattle.rows.specs.declared.Row.{Row}
 use Rattle.write.specs.declared.Writer.{Writer}
 use Rattle.write_header.specs.Levels.{WritesScope}
-use Rattle.write_header.specs.Meanings.{all_meanings, kept_meanings, header_meanings, scope_meanings}
+use Rattle.write_header.specs.Meanings.{row_meanings, kept_meanings, header_meanings}
 use Rattle.write_header.specs.Pour.{pour, whole, stop, Writes}
-use Rattle.write_header.specs.Written.{Outcome, Does, misplaced, judged, header_call, scope_call}
+use Rattle.write_header.specs.Written.{Outcome, Does, misplaced, header_call}
 use Rattle.write_header.specs.declared.HeaderWritten.{HeaderWritten}
 use Rattle.write_header.specs.declared.Wrote.{Wrote}
 use Rattle.write_header.proofs.Poured.{poured-all}
-use Rattle.tree.specs.Chain.{rest, is_scope_at}
-use Rattle.tree.specs.Place.{rows_misplaced}
 use Rattle.tree.proofs.Rows.{rest_all}
 use Rattle.write_header.proofs.Rows.{good-parts, top-end}
 
@@ -42,20 +39,20 @@ top-inner = refl
 -- ---- the rows
 module _ (s table : List ℕ) (n : ℕ) (o : List ℕ) (at : ℕ) (w : Writer) (g : is_good_table (rows_of table n) ≡ true) where
   abbrev all : Outcome
-  all = pour o at w (all_meanings s (rows_of table n))
+  all = pour o at w (row_meanings s 0 [] (rows_of table n))
 
   pub rows-stop : {e : Refusal} {at₁ : ℕ} {w₁ : Writer} {o₁ : List ℕ} → WritesScope s table n 64 top 0 o at w (Wrote.Refused e at₁ w₁) o₁
       → Does (HeaderWritten.Refused e at₁ w₁) o₁ all
   rows-stop {e} {at₁} {w₁} {o₁} x =
-      of-outcome (stop e at₁ w₁ o₁) (ap (λ (rs : List Row). pour o at w (all_meanings s rs)) (sym (rest_all table n)) ∙ x [] (enddefinitions ∷ []) [] (omega arith) (omega arith) top-inner (good-parts table n g).1)
+      of-outcome (stop e at₁ w₁ o₁) (ap (λ (rs : List Row). pour o at w (row_meanings s 0 [] rs)) (sym (rest_all table n)) ∙ x [] refl top-inner (good-parts table n g).1)
 
   -- the rows are written, and the end of the definitions
   module _ (i₁ at₁ : ℕ) (w₁ : Writer) (o₁ : List ℕ) (x : WritesScope s table n 64 top 0 o at w (Wrote.Through i₁ at₁ w₁) o₁) where
     to_end : all ≡ pour o₁ at₁ w₁ (enddefinitions ∷ [])
     to_end =
-        let q = x.4 [] (enddefinitions ∷ []) [] (omega arith) (omega arith) top-inner (good-parts table n g).1 in
-        ap (λ (rs : List Row). pour o at w (all_meanings s rs)) (sym (rest_all table n))
-        ∙ q.1 ∙ ap (pour o₁ at₁ w₁) (top-end s table n i₁ (enddefinitions ∷ []) x.1 x.3 q.0)
+        let q = x.4 [] refl top-inner (good-parts table n g).1 in
+        ap (λ (rs : List Row). pour o at w (row_meanings s 0 [] rs)) (sym (rest_all table n))
+        ∙ q.1 ∙ ap (pour o₁ at₁ w₁) (top-end s table n i₁ x.1 x.3 q.0)
 
     pub end-stop : {e : Refusal} {at₂ : ℕ} {w₂ : Writer} {o₂ : List ℕ} → Writes o₁ at₁ w₁ (enddefinitions ∷ []) 0 (Wrote.Refused e at₂ w₂) o₂
         → Does (HeaderWritten.Refused e at₂ w₂) o₂ all
@@ -65,51 +62,17 @@ module _ (s table : List ℕ) (n : ℕ) (o : List ℕ) (at : ℕ) (w : Writer) (
         → Does (HeaderWritten.Bytes at₂ w₂) o₂ all
     end_whole {i₂} {at₂} {w₂} {o₂} y = of-outcome (whole at₂ w₂ o₂) (to_end ∙ y.2 [] ∙ pour-end o₂ at₂ w₂)
 
--- ---- 25, 23, the commands
-module _ (off ok : Bool) (w : Writer) (ms : List Meaning) (o : List ℕ) where
-  judged-misplaced : off ≡ true → Does (HeaderWritten.Refused Refusal.BadPlace 0 w) o (judged off ok w ms o)
-  judged-misplaced e = rw e (record { answers = refl; leaves = refl })
-
-  judged-bad : off ≡ false → ok ≡ false → Does (HeaderWritten.Refused Refusal.BadTable 0 w) o (judged off ok w ms o)
-  judged-bad e g = rw (e, g) (record { answers = refl; leaves = refl })
-
-  judged-pours : off ≡ false → ok ≡ true → judged off ok w ms o ≡ pour o 0 w ms
-  judged-pours e g = rw (e, g) (sym (poured-all w ms o))
-
 -- ---- the whole header
 module _ (w : Writer) (s : List ℕ) (h : Header) (table : List ℕ) (n : ℕ) (o : List ℕ) where
   pub bad-place : misplaced s h (rows_of table n) ≡ true → Does (HeaderWritten.Refused Refusal.BadPlace 0 w) o (header_call w s h table n o)
   unfolding header_call
-  bad-place e = judged-misplaced _ (is_good_table (rows_of table n)) w (header_meanings s h (rows_of table n)) o e
+  bad-place e = rw e (record { answers = refl; leaves = refl })
 
   module _ (e : misplaced s h (rows_of table n) ≡ false) where
     pub bad-table : is_good_table (rows_of table n) ≡ false → Does (HeaderWritten.Refused Refusal.BadTable 0 w) o (header_call w s h table n o)
     unfolding header_call
-    bad-table g = judged-bad _ _ w (header_meanings s h (rows_of table n)) o e g
+    bad-table g = rw (e, g) (record { answers = refl; leaves = refl })
 
-    pub call-pours : is_good_table (rows_of table n) ≡ true → header_call w s h table n o ≡ pour o 0 w (kept_meanings s h ++ all_meanings s (rows_of table n))
+    pub call-pours : is_good_table (rows_of table n) ≡ true → header_call w s h table n o ≡ pour o 0 w (kept_meanings s h ++ row_meanings s 0 [] (rows_of table n))
     unfolding header_call header_meanings
-    call-pours g = judged-pours _ _ w (header_meanings s h (rows_of table n)) o e g
-
--- ---- one scope
-module _ (w : Writer) (s table : List ℕ) (n i : ℕ) (o : List ℕ) where
-  abbrev ms : List Meaning
-  ms = scope_meanings s i (rest table n i)
-
-  pub scope-misplaced : rows_misplaced s (rows_of table n) ≡ true → Does (HeaderWritten.Refused Refusal.BadPlace 0 w) o (scope_call w s table n i o)
-  unfolding scope_call
-  scope-misplaced e = judged-misplaced _ (is_good_table (rows_of table n) && is_scope_at table n i) w ms o e
-
-  module _ (e : rows_misplaced s (rows_of table n) ≡ false) where
-    pub scope-bad : is_good_table (rows_of table n) ≡ false → Does (HeaderWritten.Refused Refusal.BadTable 0 w) o (scope_call w s table n i o)
-    unfolding scope_call
-    scope-bad g = judged-bad _ (is_good_table (rows_of table n) && is_scope_at table n i) w ms o e (rw g)
-
-    pub scope-none : is_good_table (rows_of table n) ≡ true → is_scope_at table n i ≡ false
-        → Does (HeaderWritten.Refused Refusal.BadTable 0 w) o (scope_call w s table n i o)
-    unfolding scope_call
-    scope-none g f = judged-bad _ (is_good_table (rows_of table n) && is_scope_at table n i) w ms o e (rw (g, f))
-
-    pub scope-pours : is_good_table (rows_of table n) ≡ true → is_scope_at table n i ≡ true → scope_call w s table n i o ≡ pour o 0 w ms
-    unfolding scope_call
-    scope-pours g f = judged-pours _ (is_good_table (rows_of table n) && is_scope_at table n i) w ms o e (rw (g, f))
+    call-pours g = rw (e, g) (sym (poured-all w (header_meanings s h (rows_of table n)) o))

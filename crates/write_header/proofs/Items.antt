@@ -35,9 +35,9 @@ module _ (s table : List ℕ) (n levels i : ℕ) (o : List ℕ) (at : ℕ) (w : 
   -- row i is one command and opens no scope
   abbrev pub Leaf : Meaning → Type 0
   Leaf m =
-      (bs : List ℕ) (ms : List Meaning) (st : List ℕ) → inner st ≡ parent_of (parent_at table i) → is_good_from i st (rest table n i) ≡ true
+      (st : List ℕ) → inner st ≡ parent_of (parent_at table i) → is_good_from i st (rest table n i) ≡ true
       → (is_good_from (i + 1) st (rest table n (i + 1)) ≡ true)
-      × (row_meanings s bs ms i st (rest table n i) ≡ m ∷ row_meanings s bs ms (i + 1) st (rest table n (i + 1)))
+      × (row_meanings s i st (rest table n i) ≡ m ∷ row_meanings s (i + 1) st (rest table n (i + 1)))
 
   pub leaf : (m : Meaning) → Leaf m → (r : Wrote) (left : List ℕ) → Writes o at w (m ∷ []) (i + 1) r left → WritesItem s table n levels i o at w r left
   leaf m f (Wrote.Through j at' w') left x =
@@ -45,67 +45,67 @@ module _ (s table : List ℕ) (n levels i : ℕ) (o : List ℕ) (at : ℕ) (w : 
         omega arith,
         omega arith,
         x.1,
-        λ bs ms st z h k g. let y = f bs ms st k g in (y.0, ap (pour o at w) y.1 ∙ x.2 (row_meanings s bs ms (i + 1) st (rest table n (i + 1)))),
+        λ st h k g. let y = f st k g in (y.0, ap (pour o at w) y.1 ∙ x.2 (row_meanings s (i + 1) st (rest table n (i + 1)))),
       )
   leaf m f (Wrote.Refused e at' w') left x =
-      λ bs ms st z h k g. ap (pour o at w) (f bs ms st k g).1 ∙ x (row_meanings s bs ms (i + 1) st (rest table n (i + 1)))
+      λ st h k g. ap (pour o at w) (f st k g).1 ∙ x (row_meanings s (i + 1) st (rest table n (i + 1)))
 
   pub no_row : row_at table i ≡ Row.None → (x : Outcome) → Ends s table n levels (parent_at table i) i o at w x
-  no_row e x = λ bs ms st z h k g. absurd (here-none s table n i bs ms st l k g e)
+  no_row e x = λ st h k g. absurd (here-none s table n i st l k g e)
 
   -- row i is a scope
   module _ {p : Parent} {k : ScopeType} {t : Text} (e : row_at table i ≡ Row.Scope p k t) where
     pub no-level : levels ≡ 0 → (x : Outcome) → Ends s table n levels (parent_at table i) i o at w x
-    no-level q₀ x = λ bs ms st z h q g. absurd (omega (arith, (here-scope s table n i bs ms st l q g e).0, h, q₀))
+    no-level z x = λ st h q g. absurd (omega (arith, (here-scope s table n i st l q g e).0, h, z))
 
     pub not_opened : (x : Outcome) → ((more : List Meaning) → pour o at w (scope_def k (part s t) ∷ more) ≡ x)
         → Ends s table n levels (parent_at table i) i o at w x
-    not_opened x f = λ bs ms st z h q g. ap (pour o at w) (here-scope s table n i bs ms st l q g e).2 ∙ f (row_meanings s bs ms (i + 1) (i ∷ st) (rest table n (i + 1)))
+    not_opened x f = λ st h q g. ap (pour o at w) (here-scope s table n i st l q g e).2 ∙ f (row_meanings s (i + 1) (i ∷ st) (rest table n (i + 1)))
 
     module _ (small : i < top) (some : levels ≡ 0 → ⊥) (o₁ : List ℕ) (at₁ : ℕ) (w₁ : Writer)
         (opens : (more : List Meaning) → pour o at w (scope_def k (part s t) ∷ more) ≡ pour o₁ at₁ w₁ more) where
-      first : (bs : List ℕ) (ms : List Meaning) (st : List ℕ) → inner st ≡ parent_of (parent_at table i) → is_good_from i st (rest table n i) ≡ true
-          → pour o at w (row_meanings s bs ms i st (rest table n i)) ≡ pour o₁ at₁ w₁ (row_meanings s bs ms (i + 1) (i ∷ st) (rest table n (i + 1)))
-      first bs ms st q g = ap (pour o at w) (here-scope s table n i bs ms st l q g e).2 ∙ opens (row_meanings s bs ms (i + 1) (i ∷ st) (rest table n (i + 1)))
+      first : (st : List ℕ) → inner st ≡ parent_of (parent_at table i) → is_good_from i st (rest table n i) ≡ true
+          → pour o at w (row_meanings s i st (rest table n i)) ≡ pour o₁ at₁ w₁ (row_meanings s (i + 1) (i ∷ st) (rest table n (i + 1)))
+      first st q g = ap (pour o at w) (here-scope s table n i st l q g e).2 ∙ opens (row_meanings s (i + 1) (i ∷ st) (rest table n (i + 1)))
 
       -- the items are written, and the scope is closed next
       passed : (i₂ at₂ : ℕ) (w₂ : Writer) (o₂ : List ℕ) → WritesScope s table n (levels - 1) i (i + 1) o₁ at₁ w₁ (Wrote.Through i₂ at₂ w₂) o₂
-          → Where table n levels (parent_at table i) i λ bs ms st.
+          → Where table n levels (parent_at table i) i λ st.
           (is_good_from i₂ st (rest table n i₂) ≡ true)
-          × (pour o at w (row_meanings s bs ms i st (rest table n i)) ≡ pour o₂ at₂ w₂ (upscope ∷ row_meanings s bs ms i₂ st (rest table n i₂)))
-      passed i₂ at₂ w₂ o₂ y bs ms st z h q g =
-          let a = y.4 bs ms (i ∷ st) (omega (arith, z)) (omega (arith, h, some)) (scope-inner i st small) (here-scope s table n i bs ms st l q g e).1 in
-          let b = pop s table n i₂ bs ms st i z y.1 y.3 a.0 in
-          (b.0, first bs ms st q g ∙ a.1 ∙ ap (pour o₂ at₂ w₂) b.1)
+          × (pour o at w (row_meanings s i st (rest table n i)) ≡ pour o₂ at₂ w₂ (upscope ∷ row_meanings s i₂ st (rest table n i₂)))
+      passed i₂ at₂ w₂ o₂ y st h q g =
+          let a = y.4 (i ∷ st) (omega (arith, h, some)) (scope-inner i st small) (here-scope s table n i st l q g e).1 in
+          let b = pop s table n i₂ st i y.1 y.3 a.0 in
+          (b.0, first st q g ∙ a.1 ∙ ap (pour o₂ at₂ w₂) b.1)
 
       pub nested : (x r : Wrote) (o₂ left : List ℕ) → WritesScope s table n (levels - 1) i (i + 1) o₁ at₁ w₁ x o₂ → Closes x o₂ r left
           → WritesItem s table n levels i o at w r left
-      nested (Wrote.Through i₂ at₂ w₂) (Wrote.Through i₃ at₃ w₃) o₂ left y c =
-          rw c.0 (
+      nested (Wrote.Through i₂ at₂ w₂) (Wrote.Through i₃ at₃ w₃) o₂ left y z =
+          rw z.0 (
             omega (arith, y.0),
             y.1,
-            c.1,
-            λ bs ms st z h q g. let a = passed i₂ at₂ w₂ o₂ y bs ms st z h q g in (a.0, a.1 ∙ c.2 (row_meanings s bs ms i₂ st (rest table n i₂))),
+            z.1,
+            λ st h q g. let a = passed i₂ at₂ w₂ o₂ y st h q g in (a.0, a.1 ∙ z.2 (row_meanings s i₂ st (rest table n i₂))),
           )
-      nested (Wrote.Through i₂ at₂ w₂) (Wrote.Refused f at₃ w₃) o₂ left y c =
-          λ bs ms st z h q g. (passed i₂ at₂ w₂ o₂ y bs ms st z h q g).1 ∙ c (row_meanings s bs ms i₂ st (rest table n i₂))
-      nested (Wrote.Refused f at₂ w₂) r o₂ left y c =
-          rw (c.0, c.1)
-          (λ bs ms st z h q g.
-          first bs ms st q g ∙ y bs ms (i ∷ st) (omega (arith, z)) (omega (arith, h, some)) (scope-inner i st small) (here-scope s table n i bs ms st l q g e).1)
+      nested (Wrote.Through i₂ at₂ w₂) (Wrote.Refused f at₃ w₃) o₂ left y z =
+          λ st h q g. (passed i₂ at₂ w₂ o₂ y st h q g).1 ∙ z (row_meanings s i₂ st (rest table n i₂))
+      nested (Wrote.Refused f at₂ w₂) r o₂ left y z =
+          rw (z.0, z.1)
+          (λ st h q g.
+          first st q g ∙ y (i ∷ st) (omega (arith, h, some)) (scope-inner i st small) (here-scope s table n i st l q g e).1)
 
 -- ---- the writing goes on from where it stopped, with the same scopes open
 module _ (s table : List ℕ) (n levels me i : ℕ) (o : List ℕ) (at : ℕ) (w : Writer) (i₁ : ℕ) (o₁ : List ℕ) (at₁ : ℕ) (w₁ : Writer)
     (x : Goes s table n levels me i o at w i₁ o₁ at₁ w₁) (e : parent_at table i₁ ≡ me) where
   pub goes_on : (i₂ : ℕ) (o₂ : List ℕ) (at₂ : ℕ) (w₂ : Writer) → Goes s table n levels (parent_at table i₁) i₁ o₁ at₁ w₁ i₂ o₂ at₂ w₂
       → Goes s table n levels me i o at w i₂ o₂ at₂ w₂
-  goes_on i₂ o₂ at₂ w₂ y bs ms st z h k g =
-      let a = x bs ms st z h k g in
-      let b = y bs ms st z h (k ∙ ap parent_of (sym e)) a.0 in
+  goes_on i₂ o₂ at₂ w₂ y st h k g =
+      let a = x st h k g in
+      let b = y st h (k ∙ ap parent_of (sym e)) a.0 in
       (b.0, a.1 ∙ b.1)
 
   pub goes-out : (r : Outcome) → Ends s table n levels (parent_at table i₁) i₁ o₁ at₁ w₁ r → Ends s table n levels me i o at w r
-  goes-out r y bs ms st z h k g = let a = x bs ms st z h k g in a.1 ∙ y bs ms st z h (k ∙ ap parent_of (sym e)) a.0
+  goes-out r y st h k g = let a = x st h k g in a.1 ∙ y st h (k ∙ ap parent_of (sym e)) a.0
 
 -- ---- variables of one scope: row `from` and those after it
 pub var-of : (table : List ℕ) (i me : ℕ) → is_var_of table i me ≡ true → (kind_of (row_at table i) ≡ 2) × (parent_at table i ≡ me)
@@ -137,7 +137,7 @@ module _ (s table : List ℕ) (n from : ℕ) (o : List ℕ) (at : ℕ) (w : Writ
         → (levels : ℕ) → WritesItem s table n levels i o₁ at₁ w₁ r left
     item r left y levels =
         leaf s table n levels i o₁ at₁ w₁ l (var_meaning s (var_in (row_at table i)))
-        (λ bs ms st k g. here-var s table n i bs ms st l k g (var-kind (row_at table i) its.0).1) r left (rw q at y)
+        (λ st k g. here-var s table n i st l k g (var-kind (row_at table i) its.0).1) r left (rw q at y)
 
     pub one_more : (i₂ at₂ : ℕ) (w₂ : Writer) (left : List ℕ) → Writes o₁ at₁ w₁ (var_meaning s v ∷ []) (i + 1) (Wrote.Through i₂ at₂ w₂) left
         → Run i₂ left at₂ w₂

@@ -18,7 +18,7 @@ use Rattle.text.proofs.Lists.{neither}
 use Rattle.rows.specs.Peek.{kind_of, var_in}
 use Rattle.rows.proofs.Peeking.{var-kind}
 use Rattle.text.proofs.Limit.{outside-else}
-use Rattle.tree.specs.Place.{row_outside, some_outside, rows_misplaced}
+use Rattle.tree.specs.Place.{row_outside, some_outside}
 use Rattle.tree.proofs.Places.{all_placed}
 use Rattle.write_header.specs.Levels.{Inside}
 use Rattle.write_header.specs.Written.{kept_outside, misplaced}
@@ -54,9 +54,3 @@ inside s h table n e =
     let b = neither (too_long s || kept_outside s h.date) (kept_outside s h.version) a.0 in
     let c = neither (too_long s) (kept_outside s h.date) b.0 in
     (c.1, b.1, record { short = c.0; placed = λ i l. all_placed s table 0 n a.1 i (omega arith) (omega arith) })
-
--- of the rows alone
-pub rows_inside : (s table : List ℕ) (n : ℕ) → rows_misplaced s (rows_of table n) ≡ false → Inside s table n
-rows_inside s table n e =
-    let a = neither (too_long s) (some_outside s (rows_of table n)) e in
-    record { short = a.0; placed = λ i l. all_placed s table 0 n a.1 i (omega arith) (omega arith) }

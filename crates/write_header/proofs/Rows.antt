@@ -7,12 +7,12 @@ use mathlib.Core.Path.{◌≡◌, refl, sym, ap, ◌∙◌}
 use mathlib.Core.Bool.{Bool, true, false, cond, ◌&&◌, false≢true}
 use mathlib.Core.List.{List, [], ◌∷◌}
 use native.Mathlib.Omega.{arith}
-use native.Mathlib.Nat.{sub_self}
+use native.Mathlib.Nat.{sub_self, sub-zero}
 use native.Mathlib.Decide.{dec_lt}
 use borrow.Author.Tests.{eq-eqb, ne_eqb, ltb-true, leb-true}
 use lib.Dec.{eqb, ltb, leb}
 use lib.ListN.{length}
-use Rattle.command.specs.Meaning.{Meaning, comment, remark, scope_def, upscope}
+use Rattle.command.specs.Meaning.{comment, remark, scope_def, upscope, enddefinitions}
 use Rattle.rows.specs.Good.{is_parent, open_to, is_good_from, is_good_table}
 use Rattle.header.specs.Header.{inner}
 use Rattle.rows.specs.Rows.{top, parent_word, parent_of, row_at, rows_of}
@@ -29,7 +29,7 @@ use Rattle.tree.proofs.Rows.{scope-parent, var-parent, comment-parent, rest-cons
 use Rattle.write_header.specs.Meanings.{upscopes, var_meaning, row_meanings}
 
 -- ---- the scopes that stay open
-pub open-inner : (st : List ℕ) → open_to (inner st) st ≡ st
+open-inner : (st : List ℕ) → open_to (inner st) st ≡ st
 unfolding open_to
 open-inner [] = refl
 open-inner (n ∷ st) = rw (eq-eqb n n refl)
@@ -50,7 +50,7 @@ open-length (Parent.Of q) [] = omega arith
 open-length (Parent.Of q) (n ∷ st) =
     let h = open-length (Parent.Of q) st in open-cond (eqb q.0 n) (n ∷ st) (open_to (Parent.Of q) st) (suc (length st)) (omega arith) (omega arith)
 
-pub up_none : (st : List ℕ) → upscopes st st ≡ []
+up_none : (st : List ℕ) → upscopes st st ≡ []
 up_none st = rw (sub_self (length st))
 
 up_one : (n : ℕ) (st : List ℕ) (p : Parent) → (parent_word p ≡ n → ⊥)
@@ -68,30 +68,28 @@ good-out (Row.Var p v) rs i n st h = rw (open-other p n st h, parent-other p n s
 good-out (Row.Comment p t) rs i n st h = rw (open-other p n st h, parent-other p n st h)
 good-out Row.None rs i n st h = refl
 
-row_out : (s bs : List ℕ) (ms : List Meaning) (r : Row) (rs : List Row) (i n : ℕ) (st : List ℕ) → (parent_in r ≡ n → ⊥) → is_good_from i st (r ∷ rs) ≡ true
-    → row_meanings s bs ms i (n ∷ st) (r ∷ rs) ≡ upscope ∷ row_meanings s bs ms i st (r ∷ rs)
+row_out : (s : List ℕ) (r : Row) (rs : List Row) (i n : ℕ) (st : List ℕ) → (parent_in r ≡ n → ⊥) → is_good_from i st (r ∷ rs) ≡ true
+    → row_meanings s i (n ∷ st) (r ∷ rs) ≡ upscope ∷ row_meanings s i st (r ∷ rs)
 unfolding row_meanings is_good_from
-row_out s bs ms (Row.Scope p k t) rs i n st h g = rw (up_one n st p h, open-other p n st h)
-row_out s bs ms (Row.Var p v) rs i n st h g = rw (up_one n st p h, open-other p n st h)
-row_out s bs ms (Row.Comment p t) rs i n st h g = rw (up_one n st p h, open-other p n st h)
-row_out s bs ms Row.None rs i n st h g = absurd (false≢true g)
+row_out s (Row.Scope p k t) rs i n st h g = rw (up_one n st p h, open-other p n st h)
+row_out s (Row.Var p v) rs i n st h g = rw (up_one n st p h, open-other p n st h)
+row_out s (Row.Comment p t) rs i n st h g = rw (up_one n st p h, open-other p n st h)
+row_out s Row.None rs i n st h g = absurd (false≢true g)
 
-row-end : (s bs : List ℕ) (ms : List Meaning) (i n : ℕ) (st : List ℕ) → length bs ≤ length st
-    → row_meanings s bs ms i (n ∷ st) [] ≡ upscope ∷ row_meanings s bs ms i st []
+row-end : (s : List ℕ) (i n : ℕ) (st : List ℕ) → row_meanings s i (n ∷ st) [] ≡ upscope ∷ row_meanings s i st []
 unfolding row_meanings
-row-end s bs ms i n st h = let e : suc (length st) - length bs ≡ suc (length st - length bs) = omega arith in rw e
+row-end s i n st = rw (sub-zero (suc (length st)), sub-zero (length st))
 
--- then come the scopes `bs` and the commands `ms`
-module _ (s table : List ℕ) (n i : ℕ) (bs : List ℕ) (ms : List Meaning) (st : List ℕ) where
-  pub pop : (m : ℕ) → length bs ≤ length st → i ≤ n → (i < n → parent_at table i ≡ m → ⊥) → is_good_from i (m ∷ st) (rest table n i) ≡ true
+module _ (s table : List ℕ) (n i : ℕ) (st : List ℕ) where
+  pub pop : (m : ℕ) → i ≤ n → (i < n → parent_at table i ≡ m → ⊥) → is_good_from i (m ∷ st) (rest table n i) ≡ true
       → (is_good_from i st (rest table n i) ≡ true)
-      × (row_meanings s bs ms i (m ∷ st) (rest table n i) ≡ upscope ∷ row_meanings s bs ms i st (rest table n i))
+      × (row_meanings s i (m ∷ st) (rest table n i) ≡ upscope ∷ row_meanings s i st (rest table n i))
   unfolding parent_at
-  pop m b h out g = elim (dec_lt i n) [
+  pop m h out g = elim (dec_lt i n) [
     | yes l ↦
         let q = sym (good-out (row_at table i) (rest table n (i + 1)) i m st (out l)) ∙ (rw (rest-cons table n i l) at g) in
-        rw (rest-cons table n i l) (q, row_out s bs ms (row_at table i) (rest table n (i + 1)) i m st (out l) q)
-    | no l ↦ let e : i ≡ n = omega arith in rw (e, rest-nil table n) (good-end n st, row-end s bs ms n m st b)
+        rw (rest-cons table n i l) (q, row_out s (row_at table i) (rest table n (i + 1)) i m st (out l) q)
+    | no l ↦ let e : i ≡ n = omega arith in rw (e, rest-nil table n) (good-end n st, row-end s n m st)
   ]
 
   -- ---- a row whose parent is the innermost open scope
@@ -105,7 +103,7 @@ module _ (s table : List ℕ) (n i : ℕ) (bs : List ℕ) (ms : List Meaning) (s
 
     pub here-scope : {p : Parent} {k : ScopeType} {t : Text} → row_at table i ≡ Row.Scope p k t
         → (length st < 64) × (is_good_from (i + 1) (i ∷ st) (rest table n (i + 1)) ≡ true)
-        × (row_meanings s bs ms i st (rest table n i) ≡ scope_def k (part s t) ∷ row_meanings s bs ms (i + 1) (i ∷ st) (rest table n (i + 1)))
+        × (row_meanings s i st (rest table n i) ≡ scope_def k (part s t) ∷ row_meanings s (i + 1) (i ∷ st) (rest table n (i + 1)))
     unfolding is_good_from row_meanings
     here-scope {p} e =
         let o = same (scope-parent table i e) in
@@ -117,7 +115,7 @@ module _ (s table : List ℕ) (n i : ℕ) (bs : List ℕ) (ms : List Meaning) (s
 
     pub here-var : {p : Parent} {v : Var} → row_at table i ≡ Row.Var p v
         → (is_good_from (i + 1) st (rest table n (i + 1)) ≡ true)
-        × (row_meanings s bs ms i st (rest table n i) ≡ var_meaning s v ∷ row_meanings s bs ms (i + 1) st (rest table n (i + 1)))
+        × (row_meanings s i st (rest table n i) ≡ var_meaning s v ∷ row_meanings s (i + 1) st (rest table n (i + 1)))
     unfolding is_good_from row_meanings
     here-var {p} e =
         let o = same (var-parent table i e) in (
@@ -127,7 +125,7 @@ module _ (s table : List ℕ) (n i : ℕ) (bs : List ℕ) (ms : List Meaning) (s
 
     pub here-comment : {p : Parent} {t : Text} → row_at table i ≡ Row.Comment p t
         → (is_good_from (i + 1) st (rest table n (i + 1)) ≡ true)
-        × (row_meanings s bs ms i st (rest table n i) ≡ remark comment (part s t) ∷ row_meanings s bs ms (i + 1) st (rest table n (i + 1)))
+        × (row_meanings s i st (rest table n i) ≡ remark comment (part s t) ∷ row_meanings s (i + 1) st (rest table n (i + 1)))
     unfolding is_good_from row_meanings
     here-comment {p} e =
         let o = same (comment-parent table i e) in (
@@ -154,16 +152,16 @@ good-top (Row.Var p v) rs i g = top-parent p (both (is_parent p []) (is_good_fro
 good-top (Row.Comment p t) rs i g = top-parent p (both (is_parent p []) (is_good_from (i + 1) (open_to p []) rs) g).0
 good-top Row.None rs i g = refl
 
-row_last : (s : List ℕ) (ms : List Meaning) (i : ℕ) → row_meanings s [] ms i [] [] ≡ ms
+row_last : (s : List ℕ) (i : ℕ) → row_meanings s i [] [] ≡ enddefinitions ∷ []
 unfolding row_meanings
-row_last s ms i = refl
+row_last s i = refl
 
-pub top-end : (s table : List ℕ) (n i : ℕ) (ms : List Meaning) → i ≤ n → (i < n → parent_at table i ≡ top → ⊥) → is_good_from i [] (rest table n i) ≡ true
-    → row_meanings s [] ms i [] (rest table n i) ≡ ms
+pub top-end : (s table : List ℕ) (n i : ℕ) → i ≤ n → (i < n → parent_at table i ≡ top → ⊥) → is_good_from i [] (rest table n i) ≡ true
+    → row_meanings s i [] (rest table n i) ≡ enddefinitions ∷ []
 unfolding parent_at
-top-end s table n i ms h out g = elim (dec_lt i n) [
+top-end s table n i h out g = elim (dec_lt i n) [
   | yes l ↦ absurd (out l (good-top (row_at table i) (rest table n (i + 1)) i (rw (rest-cons table n i l) at g)))
-  | no l ↦ let e : i ≡ n = omega arith in rw (e, rest-nil table n) (row_last s ms n)
+  | no l ↦ let e : i ≡ n = omega arith in rw (e, rest-nil table n) (row_last s n)
 ]
 
 pub good-parts : (table : List ℕ) (n : ℕ) → is_good_table (rows_of table n) ≡ true → (n ≤ 4096) × (is_good_from 0 [] (rest table n 0) ≡ true)

@@ -2,7 +2,6 @@
 --     header-takes   their layouts are the bytes, and the answer tells how many, and the state after them
 --     header-all     where the answer is `Bytes`, they are all
 --     sized-header   the numbers of a header's commands are of their types
---     scope-takes, scope-all, sized-scope    of one scope's call
 use Prim.Native.Nat.{ℕ, zero, suc, ◌+◌, ◌-◌, ◌*◌, ◌/◌, ◌^◌, ◌<◌}
 use mathlib.Core.Path.{◌≡◌, refl, ap}
 use mathlib.Core.Bool.{Bool, true, false, cond, not, ◌&&◌, ◌||◌}
@@ -28,10 +27,8 @@ use Rattle.write.specs.Layout.{layout, writable, state_after}
 use Rattle.scope.specs.Index.{SizedIndex}
 use Rattle.write.specs.Run.{layouts, states_after, taken, Sized, AllSized}
 use Rattle.write.specs.declared.Writer.{Writer}
-use Rattle.tree.specs.Chain.{rest, is_scope_at}
-use Rattle.tree.specs.Place.{rows_misplaced}
-use Rattle.write_header.specs.Meanings.{upscopes, remark_of, timescale_of, var_meaning, row_meanings, all_meanings, header_meanings, is_in, rows_in, scope_meanings}
-use Rattle.write_header.specs.Written.{Outcome, poured, misplaced, judged, header_call, scope_call}
+use Rattle.write_header.specs.Meanings.{upscopes, remark_of, timescale_of, var_meaning, row_meanings, header_meanings}
+use Rattle.write_header.specs.Written.{Outcome, poured, misplaced, header_call}
 use Rattle.write_header.specs.declared.HeaderWritten.{HeaderWritten}
 use Rattle.rows.proofs.Peeking.{row-cases}
 
@@ -50,18 +47,12 @@ pub record Takes (w : Writer) (o : List ℕ) (l : List Meaning) (x : Outcome) : 
   pub state : state_of x.answer ≡ states_after w l
   pub leaves : x.left ≡ layouts l ++ drop (length (layouts l)) o
 
--- none where all are refused at once, by 25 or 23
-abbrev judged_taken : (off ok : Bool) → Writer → List Meaning → List ℕ → List Meaning
-judged_taken off ok w ms o = cond (off || not ok) [] (taken w (length o) ms)
+-- all are refused at once: by 25 or 23
+abbrev pub refused : List ℕ → Header → List ℕ → ℕ → Bool
+refused s h table n = misplaced s h (rows_of table n) || not (is_good_table (rows_of table n))
 
--- of a header's call, of one scope's
 abbrev pub accepted : Writer → List ℕ → Header → List ℕ → ℕ → List ℕ → List Meaning
-accepted w s h table n o =
-    judged_taken (misplaced s h (rows_of table n)) (is_good_table (rows_of table n)) w (header_meanings s h (rows_of table n)) o
-
-abbrev pub scope_accepted : Writer → List ℕ → List ℕ → ℕ → ℕ → List ℕ → List Meaning
-scope_accepted w s table n i o =
-    judged_taken (rows_misplaced s (rows_of table n)) (is_good_table (rows_of table n) && is_scope_at table n i) w (scope_meanings s i (rest table n i)) o
+accepted w s h table n o = cond (refused s h table n) [] (taken w (length o) (header_meanings s h (rows_of table n)))
 
 none-taken : (w : Writer) (o : List ℕ) (e : Refusal) → Takes w o [] (record { answer = HeaderWritten.Refused e 0 w; left = o })
 unfolding layouts states_after
@@ -73,24 +64,19 @@ poured-taken w ms l o =
     (λ e. record { counts = rw e; state = rw e; leaves = refl })
     (λ e. record { counts = rw e; state = rw e; leaves = refl })
 
-judged-takes : (off ok : Bool) (w : Writer) (ms : List Meaning) (o : List ℕ) → Takes w o (judged_taken off ok w ms o) (judged off ok w ms o)
-judged-takes true ok w ms o = none-taken w o Refusal.BadPlace
-judged-takes false true w ms o = poured-taken w ms _ o
-judged-takes false false w ms o = none-taken w o Refusal.BadTable
-
-pub header-takes : (w : Writer) (s : List ℕ) (h : Header) (table : List ℕ) (n : ℕ) (o : List ℕ)
-    → Takes w o (accepted w s h table n o) (header_call w s h table n o)
-unfolding header_call
-header-takes w s h table n o =
-    judged-takes (misplaced s h (rows_of table n)) (is_good_table (rows_of table n)) w (header_meanings s h (rows_of table n)) o
-
-pub scope-takes : (w : Writer) (s table : List ℕ) (n i : ℕ) (o : List ℕ) → Takes w o (scope_accepted w s table n i o) (scope_call w s table n i o)
-unfolding scope_call
-scope-takes w s table n i o =
-    judged-takes (rows_misplaced s (rows_of table n)) (is_good_table (rows_of table n) && is_scope_at table n i) w (scope_meanings s i (rest table n i)) o
+module _ (w : Writer) (s : List ℕ) (h : Header) (table : List ℕ) (n : ℕ) (o : List ℕ) where
+  pub header-takes : Takes w o (accepted w s h table n o) (header_call w s h table n o)
+  unfolding header_call
+  header-takes =
+      by-test (misplaced s h (rows_of table n))
+      (λ e. rw e (none-taken w o Refusal.BadPlace))
+      (λ e.
+      by-test (is_good_table (rows_of table n))
+      (λ g. rw (e, g) (poured-taken w (header_meanings s h (rows_of table n)) _ o))
+      (λ g. rw (e, g) (none-taken w o Refusal.BadTable)))
 
 -- ---- all of them
-pub taken-whole : (w : Writer) (room : ℕ) (ms : List Meaning) → length (taken w room ms) ≡ length ms → taken w room ms ≡ ms
+taken-whole : (w : Writer) (room : ℕ) (ms : List Meaning) → length (taken w room ms) ≡ length ms → taken w room ms ≡ ms
 unfolding taken
 taken-whole w room [] e = refl
 taken-whole w room (m ∷ ms) e =
@@ -109,23 +95,19 @@ poured-whole w ms l o k v e =
     by-test (eqb (length l) (length ms)) (eqb-true (length l) (length ms))
     (λ q. absurd (let f = rw q at e in let z : ◌≡◌ {A = ℕ} 0 1 = cc in omega arith))
 
-judged-all : (off ok : Bool) (w : Writer) (ms : List Meaning) (o : List ℕ) (k : ℕ) (v : Writer)
-    → (judged off ok w ms o).answer ≡ HeaderWritten.Bytes k v → judged_taken off ok w ms o ≡ ms
-judged-all true ok w ms o k v a = absurd (let z : ◌≡◌ {A = ℕ} 0 1 = cc in omega arith)
-judged-all false true w ms o k v a = taken-whole w (length o) ms (poured-whole w ms (taken w (length o) ms) o k v a)
-judged-all false false w ms o k v a = absurd (let z : ◌≡◌ {A = ℕ} 0 1 = cc in omega arith)
-
-pub header-all : (w : Writer) (s : List ℕ) (h : Header) (table : List ℕ) (n : ℕ) (o : List ℕ) (k : ℕ) (v : Writer)
-    → (header_call w s h table n o).answer ≡ HeaderWritten.Bytes k v → accepted w s h table n o ≡ header_meanings s h (rows_of table n)
-unfolding header_call
-header-all w s h table n o k v a =
-    judged-all (misplaced s h (rows_of table n)) (is_good_table (rows_of table n)) w (header_meanings s h (rows_of table n)) o k v a
-
-pub scope-all : (w : Writer) (s table : List ℕ) (n i : ℕ) (o : List ℕ) (k : ℕ) (v : Writer)
-    → (scope_call w s table n i o).answer ≡ HeaderWritten.Bytes k v → scope_accepted w s table n i o ≡ scope_meanings s i (rest table n i)
-unfolding scope_call
-scope-all w s table n i o k v a =
-    judged-all (rows_misplaced s (rows_of table n)) (is_good_table (rows_of table n) && is_scope_at table n i) w (scope_meanings s i (rest table n i)) o k v a
+module _ (w : Writer) (s : List ℕ) (h : Header) (table : List ℕ) (n : ℕ) (o : List ℕ) where
+  pub header-all : (k : ℕ) (v : Writer) → (header_call w s h table n o).answer ≡ HeaderWritten.Bytes k v
+      → accepted w s h table n o ≡ header_meanings s h (rows_of table n)
+  unfolding header_call
+  header-all k v a =
+      by-test (misplaced s h (rows_of table n))
+      (λ e. absurd (let f = rw e at a in let z : ◌≡◌ {A = ℕ} 0 1 = cc in omega arith))
+      (λ e.
+      by-test (is_good_table (rows_of table n))
+      (λ g.
+      let all = header_meanings s h (rows_of table n) in
+      rw (e, g) (taken-whole w (length o) all (poured-whole w all (taken w (length o) all) o k v (rw (e, g) at a))))
+      (λ g. absurd (let f = rw (e, g) at a in let z : ◌≡◌ {A = ℕ} 0 1 = cc in omega arith)))
 
 -- ---- numbers of their types
 -- each word of a table is of 64 bits
@@ -177,36 +159,26 @@ sized-append : (a b : List Meaning) → AllSized a → AllSized b → AllSized (
 sized-append [] b x y = y
 sized-append (m ∷ a) b x y = (x.0, sized-append a b x.1 y)
 
--- commands after upscopes
-sized-up : (k : ℕ) (ms : List Meaning) → AllSized ms → AllSized (replicate k upscope ++ ms)
-sized-up zero ms y = y
-sized-up (suc k) ms y = (tt, sized-up k ms y)
+-- a row's command after upscopes
+sized-up : (k : ℕ) (m : Meaning) (ms : List Meaning) → Sized m → AllSized ms → AllSized (replicate k upscope ++ (m ∷ ms))
+sized-up zero m ms x y = (x, y)
+sized-up (suc k) m ms x y = (tt, sized-up k m ms x y)
 
-module _ (s bs : List ℕ) (ms : List Meaning) where
-  sized-next : (i : ℕ) (st : List ℕ) (r : Row) (rs : List Row) → SizedRow r
-      → ((j : ℕ) (l : List ℕ) → AllSized (row_meanings s bs ms j l rs)) → AllSized (row_meanings s bs ms i st (r ∷ rs))
-  unfolding row_meanings SizedRow
-  sized-next i st (Row.Scope p k t) rs x f =
-      sized-up (length st - length (open_to p st)) (scope_def k (part s t) ∷ row_meanings s bs ms (i + 1) (i ∷ open_to p st) rs) (tt, f (i + 1) (i ∷ open_to p st))
-  sized-next i st (Row.Var p v) rs x f =
-      sized-up (length st - length (open_to p st)) (var_meaning s v ∷ row_meanings s bs ms (i + 1) (open_to p st) rs) (x, f (i + 1) (open_to p st))
-  sized-next i st (Row.Comment p t) rs x f =
-      sized-up (length st - length (open_to p st)) (remark comment (part s t) ∷ row_meanings s bs ms (i + 1) (open_to p st) rs) (tt, f (i + 1) (open_to p st))
-  sized-next i st Row.None rs x f = f (i + 1) st
+sized-next : (s : List ℕ) (i : ℕ) (st : List ℕ) (r : Row) (rs : List Row) → SizedRow r
+    → ((j : ℕ) (l : List ℕ) → AllSized (row_meanings s j l rs)) → AllSized (row_meanings s i st (r ∷ rs))
+unfolding row_meanings SizedRow
+sized-next s i st (Row.Scope p k t) rs x f =
+    sized-up (length st - length (open_to p st)) (scope_def k (part s t)) (row_meanings s (i + 1) (i ∷ open_to p st) rs) tt (f (i + 1) (i ∷ open_to p st))
+sized-next s i st (Row.Var p v) rs x f =
+    sized-up (length st - length (open_to p st)) (var_meaning s v) (row_meanings s (i + 1) (open_to p st) rs) x (f (i + 1) (open_to p st))
+sized-next s i st (Row.Comment p t) rs x f =
+    sized-up (length st - length (open_to p st)) (remark comment (part s t)) (row_meanings s (i + 1) (open_to p st) rs) tt (f (i + 1) (open_to p st))
+sized-next s i st Row.None rs x f = f (i + 1) st
 
-  module _ (z : AllSized ms) where
-    sized-end : (j : ℕ) (st : List ℕ) → AllSized (row_meanings s bs ms j st [])
-    unfolding row_meanings
-    sized-end j st = sized-up (length st - length bs) ms z
-
-    sized_rows : (rs : List Row) → Each SizedRow rs → (j : ℕ) (st : List ℕ) → AllSized (row_meanings s bs ms j st rs)
-    sized_rows [] x j st = sized-end j st
-    sized_rows (r ∷ rs) x j st = sized-next j st r rs x.0 (sized_rows rs x.1)
-
-each_row : (table : List ℕ) → AreWords table → (i k : ℕ) → Each SizedRow (rows_from table i k)
-unfolding rows_from
-each_row table x i zero = tt
-each_row table x i (suc k) = (sized_row table i x, each_row table x (i + 1) k)
+sized_rows : (s table : List ℕ) → AreWords table → (i k j : ℕ) (st : List ℕ) → AllSized (row_meanings s j st (rows_from table i k))
+unfolding row_meanings rows_from
+sized_rows s table x i zero j st = sized-up (length st - 0) enddefinitions [] tt tt
+sized_rows s table x i (suc k) j st = sized-next s j st (row_at table i) (rows_from table (i + 1) k) (sized_row table i x) (sized_rows s table x (i + 1) k)
 
 sized-remark : (k : Remark) (s : List ℕ) (t : KeptText) → AllSized (remark_of k s t)
 sized-remark k s KeptText.None = tt
@@ -223,19 +195,6 @@ sized-header s h table n x y =
     let d = remark_of date s h.date in
     let v = remark_of version s h.version in
     let t = timescale_of h.timescale in
-    sized-append (d ++ (v ++ t)) (all_meanings s (rows_of table n))
+    sized-append (d ++ (v ++ t)) (row_meanings s 0 [] (rows_of table n))
     (sized-append d (v ++ t) (sized-remark date s h.date) (sized-append v t (sized-remark version s h.version) (sized-scale h.timescale y)))
-    (sized_rows s [] (enddefinitions ∷ []) (tt, tt) (rows_of table n) (each_row table x 0 n) 0 [])
-
-each_in : (i : ℕ) (rs : List Row) → Each SizedRow rs → Each SizedRow (rows_in i rs)
-unfolding rows_in
-each_in i [] x = tt
-each_in i (r ∷ rs) x = let more = each_in i rs x.1 in by-test (is_in i r) (λ e. rw e (x.0, more)) (λ e. rw e tt)
-
-sized-rest : (s : List ℕ) (i : ℕ) (rs : List Row) → Each SizedRow rs → AllSized (scope_meanings s i rs)
-unfolding scope_meanings
-sized-rest s i [] x = tt
-sized-rest s i (r ∷ rs) x = sized_rows s [] [] tt (r ∷ rows_in i rs) (x.0, each_in i rs x.1) i []
-
-pub sized-scope : (s table : List ℕ) (n i : ℕ) → AreWords table → AllSized (scope_meanings s i (rest table n i))
-sized-scope s table n i x = sized-rest s i (rest table n i) (each_row table x i (n - i))
+    (sized_rows s table x 0 n 0 [])

@@ -1,7 +1,7 @@
 -- What the private functions that write rows promise: the rest of the writing, from where they stop, gives the same outcome.
 use Rattle.std.specs.Prelude.{ℕ, ◌+◌, ◌≤◌, ◌<◌, ◌≡◌, true, false, List, [], ◌∷◌, length}
 use Rattle.scope.specs.Limits.{most_levels}
-use Rattle.command.specs.Meaning.{Meaning, upscope}
+use Rattle.command.specs.Meaning.{upscope}
 use Rattle.rows.specs.Good.{is_good_from}
 use Rattle.header.specs.Header.{inner}
 use Rattle.rows.specs.Rows.{parent_of, row_at}
@@ -9,7 +9,7 @@ use Rattle.text.specs.Texts.{too_long}
 use Rattle.write.specs.declared.Writer.{Writer}
 use Rattle.tree.specs.Chain.{parent_at, rest}
 use Rattle.tree.specs.Place.{row_outside}
-use Rattle.write_header.specs.Meanings.{is_in, rows_in, row_meanings}
+use Rattle.write_header.specs.Meanings.{row_meanings}
 use Rattle.write_header.specs.Pour.{pour, stop, Writes}
 use Rattle.write_header.specs.Written.{Outcome}
 use Rattle.write_header.specs.declared.Wrote.{Wrote}
@@ -19,23 +19,21 @@ pub record Inside (s table : List ℕ) (n : ℕ) : Type 0 where
   pub short : too_long s ≡ false
   pub placed : (i : ℕ) → i < n → row_outside s (row_at table i) ≡ false
 
--- where row i is to be written with these scopes open, `me` the innermost: what holds of the writing from there, whatever follows the rows
-abbrev pub Where : List ℕ → ℕ → ℕ → ℕ → ℕ → (List ℕ → List Meaning → List ℕ → Type 0) → Type 0
+-- where row i is to be written with these scopes open, `me` the innermost: what holds of the writing from there
+abbrev pub Where : List ℕ → ℕ → ℕ → ℕ → ℕ → (List ℕ → Type 0) → Type 0
 Where table n levels me i P =
-    (base : List ℕ) (last : List Meaning) (st : List ℕ) → length base ≤ length st → most_levels ≤ length st + levels → inner st ≡ parent_of me
-    → is_good_from i st (rest table n i) ≡ true → P base last st
+    (st : List ℕ) → length st + levels ≡ most_levels → inner st ≡ parent_of me → is_good_from i st (rest table n i) ≡ true → P st
 
 -- the writing goes on with row i' at the place at', with the same scopes open
 abbrev pub Goes : List ℕ → List ℕ → ℕ → ℕ → ℕ → ℕ → List ℕ → ℕ → Writer → ℕ → List ℕ → ℕ → Writer → Type 0
 Goes s table n levels me i o at w i' o' at' w' =
-    Where table n levels me i λ base last st.
+    Where table n levels me i λ st.
     (is_good_from i' st (rest table n i') ≡ true)
-    × (pour o at w (row_meanings s base last i st (rest table n i)) ≡ pour o' at' w' (row_meanings s base last i' st (rest table n i')))
+    × (pour o at w (row_meanings s i st (rest table n i)) ≡ pour o' at' w' (row_meanings s i' st (rest table n i')))
 
 -- the writing ends here
 abbrev pub Ends : List ℕ → List ℕ → ℕ → ℕ → ℕ → ℕ → List ℕ → ℕ → Writer → Outcome → Type 0
-Ends s table n levels me i o at w x =
-    Where table n levels me i λ base last st. pour o at w (row_meanings s base last i st (rest table n i)) ≡ x
+Ends s table n levels me i o at w x = Where table n levels me i λ st. pour o at w (row_meanings s i st (rest table n i)) ≡ x
 
 -- row i, an item of its scope
 abbrev pub WritesItem : List ℕ → List ℕ → ℕ → ℕ → ℕ → List ℕ → ℕ → Writer → Wrote → List ℕ → Type 0
@@ -59,10 +57,3 @@ Closes (Wrote.Refused e at w) o r o' = (r ≡ Wrote.Refused e at w) × (o' ≡ o
 abbrev pub Fits : Wrote → ℕ → Type 0
 Fits (Wrote.Through i at w) n = at ≤ n
 Fits (Wrote.Refused e at w) n = Unit {0}
-
--- the rows after row i up to row `end` are those in its scope
-pub record EndsAt (table : List ℕ) (n i end : ℕ) : Type 0 where
-  pub after : i < end
-  pub within : end ≤ n
-  pub each : (j : ℕ) → i < j → j < end → is_in i (row_at table j) ≡ true
-  pub all : rows_in i (rest table n (i + 1)) ≡ rest table end (i + 1)

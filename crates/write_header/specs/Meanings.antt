@@ -1,12 +1,10 @@
 -- The commands that a header amounts to: date, version and timescale where present, the rows with the upscopes between them, the
--- upscopes that are left, and the end of the definitions. And those of one scope: its own, those of the rows in it, its upscope.
-use Rattle.std.specs.Prelude.{ℕ, ◌+◌, ◌-◌, Bool, cond, not, ◌&&◌, List, [], ◌∷◌, ◌++◌, eqb, leb, length, replicate}
+-- upscopes that are left, and the end of the definitions.
+use Rattle.std.specs.Prelude.{ℕ, ◌+◌, ◌-◌, List, [], ◌∷◌, ◌++◌, length, replicate}
 use Rattle.command.specs.Meaning.{Meaning, Remark, comment, date, version, remark, timescale, scope_def, upscope, var_def, enddefinitions}
 use Rattle.scope.specs.declared.Var.{Var}
 use Rattle.text.specs.Texts.{part}
 use Rattle.rows.specs.Good.{open_to}
-use Rattle.rows.specs.Peek.{parent_in}
-use Rattle.rows.specs.Rows.{top}
 use Rattle.header.specs.declared.Header.{Header}
 use Rattle.header.specs.declared.KeptText.{KeptText}
 use Rattle.header.specs.declared.KeptTimescale.{KeptTimescale}
@@ -27,36 +25,19 @@ upscopes st st' = replicate (length st - length st') upscope
 abbrev pub var_meaning : List ℕ → Var → Meaning
 var_meaning s v = var_def v.var_type v.size v.code (part s v.reference) v.index
 
--- the rows from number n on, where these scopes are open, innermost first; then the scopes but for `base` are closed, and `last` follows
-unfoldable pub row_meanings : List ℕ → List ℕ → List Meaning → ℕ → List ℕ → List Row → List Meaning
-row_meanings s base last n st [] = upscopes st base ++ last
-row_meanings s base last n st (Row.Scope p k t ∷ rs) =
-    upscopes st (open_to p st) ++ (scope_def k (part s t) ∷ row_meanings s base last (n + 1) (n ∷ open_to p st) rs)
-row_meanings s base last n st (Row.Var p v ∷ rs) =
-    upscopes st (open_to p st) ++ (var_meaning s v ∷ row_meanings s base last (n + 1) (open_to p st) rs)
-row_meanings s base last n st (Row.Comment p t ∷ rs) =
-    upscopes st (open_to p st) ++ (remark comment (part s t) ∷ row_meanings s base last (n + 1) (open_to p st) rs)
-row_meanings s base last n st (Row.None ∷ rs) = row_meanings s base last (n + 1) st rs
-
--- all rows, and the end of the definitions
-abbrev pub all_meanings : List ℕ → List Row → List Meaning
-all_meanings s rs = row_meanings s [] (enddefinitions ∷ []) 0 [] rs
+-- the rows from number n on, where these scopes are open, innermost first
+unfoldable pub row_meanings : List ℕ → ℕ → List ℕ → List Row → List Meaning
+row_meanings s n st [] = upscopes st [] ++ (enddefinitions ∷ [])
+row_meanings s n st (Row.Scope p k t ∷ rs) =
+    upscopes st (open_to p st) ++ (scope_def k (part s t) ∷ row_meanings s (n + 1) (n ∷ open_to p st) rs)
+row_meanings s n st (Row.Var p v ∷ rs) =
+    upscopes st (open_to p st) ++ (var_meaning s v ∷ row_meanings s (n + 1) (open_to p st) rs)
+row_meanings s n st (Row.Comment p t ∷ rs) =
+    upscopes st (open_to p st) ++ (remark comment (part s t) ∷ row_meanings s (n + 1) (open_to p st) rs)
+row_meanings s n st (Row.None ∷ rs) = row_meanings s (n + 1) st rs
 
 abbrev pub kept_meanings : List ℕ → Header → List Meaning
 kept_meanings s h = remark_of date s h.date ++ (remark_of version s h.version ++ timescale_of h.timescale)
 
 unfoldable pub header_meanings : List ℕ → Header → List Row → List Meaning
-header_meanings s h rs = kept_meanings s h ++ all_meanings s rs
-
--- The rows in a scope of a good table stand directly after it. Is this one in the scope of row i: is its parent that row or one after it?
-abbrev pub is_in : ℕ → Row → Bool
-is_in i r = leb i (parent_in r) && not (eqb (parent_in r) top)
-
-unfoldable pub rows_in : ℕ → List Row → List Row
-rows_in i [] = []
-rows_in i (r ∷ rs) = cond (is_in i r) (r ∷ rows_in i rs) []
-
--- row i, a scope, and the rows in it; these are the rows from row i on
-unfoldable pub scope_meanings : List ℕ → ℕ → List Row → List Meaning
-scope_meanings s i [] = []
-scope_meanings s i (r ∷ rs) = row_meanings s [] [] i [] (r ∷ rows_in i rs)
+header_meanings s h rs = kept_meanings s h ++ row_meanings s 0 [] rs

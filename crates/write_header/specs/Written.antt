@@ -1,5 +1,5 @@
--- Writing a header or one scope: what is answered, and the output then.
-use Rattle.std.specs.Prelude.{ℕ, ◌-◌, ◌≡◌, Bool, false, cond, not, ◌&&◌, ◌||◌, List, [], ◌∷◌, ◌++◌, leb, eqb, length, drop}
+-- Writing a header: what is answered, and the output then.
+use Rattle.std.specs.Prelude.{ℕ, ◌-◌, ◌≡◌, Bool, false, cond, not, ◌||◌, List, [], ◌∷◌, ◌++◌, leb, eqb, length, drop}
 use Rattle.command.specs.Meaning.{Meaning}
 use Rattle.command.specs.declared.Refusal.{Refusal}
 use Rattle.text.specs.Texts.{is_within, too_long}
@@ -11,9 +11,8 @@ use Rattle.rows.specs.declared.Row.{Row}
 use Rattle.write.specs.Layout.{layout, writable, state_after}
 use Rattle.write.specs.Run.{layouts, states_after, taken}
 use Rattle.write.specs.declared.Writer.{Writer}
-use Rattle.tree.specs.Chain.{rest, is_scope_at}
-use Rattle.tree.specs.Place.{some_outside, rows_misplaced}
-use Rattle.write_header.specs.Meanings.{header_meanings, scope_meanings}
+use Rattle.tree.specs.Place.{some_outside}
+use Rattle.write_header.specs.Meanings.{header_meanings}
 use Rattle.write_header.specs.declared.HeaderWritten.{HeaderWritten}
 
 -- ---- 25
@@ -53,23 +52,14 @@ poured w all l o =
 abbrev pub refusal : Refusal → Writer → List ℕ → Outcome
 refusal e w o = record { answer = HeaderWritten.Refused e 0 w; left = o }
 
--- 25, then 23, then the commands
-abbrev pub judged : (is_misplaced is_good : Bool) → Writer → List Meaning → List ℕ → Outcome
-judged is_misplaced is_good w all o =
-    cond is_misplaced (refusal Refusal.BadPlace w o)
-    (cond is_good (poured w all (taken w (length o) all) o)
-    (refusal Refusal.BadTable w o))
-
 -- the first n rows of a table as a header
 unfoldable pub header_call : Writer → List ℕ → Header → List ℕ → ℕ → List ℕ → Outcome
 header_call w s h table n o =
-    let rs : List Row = rows_of table n in judged (misplaced s h rs) (is_good_table rs) w (header_meanings s h rs) o
-
--- row i, a scope among the first n rows of a table, with all that is in it; 23 also where it is none
-unfoldable pub scope_call : Writer → List ℕ → List ℕ → ℕ → ℕ → List ℕ → Outcome
-scope_call w s table n i o =
     let rs : List Row = rows_of table n in
-    judged (rows_misplaced s rs) (is_good_table rs && is_scope_at table n i) w (scope_meanings s i (rest table n i)) o
+    let all : List Meaning = header_meanings s h rs in
+    cond (misplaced s h rs) (refusal Refusal.BadPlace w o)
+    (cond (is_good_table rs) (poured w all (taken w (length o) all) o)
+    (refusal Refusal.BadTable w o))
 
 -- the answer r and the output o are those of the outcome x
 pub record Does (r : HeaderWritten) (o : List ℕ) (x : Outcome) : Type 0 where

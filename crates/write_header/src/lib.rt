@@ -1,4 +1,6 @@
-// A whole header or one scope written from the rows of a table (`Writer::header` and `Writer::scope` of vcd 0.7.0).
+// A whole header written from its rows (`Writer::header` and `Writer::scope` of vcd 0.7.0).
+#![tactic(auto)]
+
 mod place;
 
 ghost use Rattle.std.specs.Prelude.{◌≡◌, true, false, [], ◌∷◌, ℕ, ◌≤◌, ◌<◌, length};
@@ -7,28 +9,27 @@ ghost use Rattle.rows.specs.Good.{is_good_table};
 ghost use Rattle.rows.specs.Rows.{row_at, rows_of};
 ghost use Rattle.rows.specs.Peek.{kind_of};
 ghost use Rattle.text.specs.Texts.{too_long, outside};
-ghost use Rattle.tree.specs.Chain.{rest, is_scope_at};
 ghost use Rattle.write.specs.Call.{misplaced as is_misplaced};
-ghost use Rattle.write_header.specs.Levels.{Inside, Fits, Closes, WritesItem, WritesScope, EndsAt};
-ghost use Rattle.write_header.specs.Meanings.{kept_meanings, remark_of, timescale_of, var_meaning, all_meanings, scope_meanings};
+ghost use Rattle.write_header.specs.Levels.{Inside, Fits, Closes, WritesItem, WritesScope};
+ghost use Rattle.write_header.specs.Meanings.{kept_meanings, remark_of, timescale_of, var_meaning, row_meanings};
 ghost use Rattle.write_header.specs.Pour.{pour, Writes};
-ghost use Rattle.write_header.specs.Written.{header_call, scope_call, kept_outside, Does};
+ghost use Rattle.write_header.specs.Written.{header_call, kept_outside, Does};
 
 use command::{Command, Refusal};
 use header::{Header, KeptText, KeptTimescale};
-use rows::{Row, RowNumber};
+use rows::Row;
 use scope::Var;
 use write::{Writer, Written};
 
 // How a header was written: the bytes and the state then; or why it stopped, after so many bytes and at which state.
-#[derive(Drop)]
+#[derive(Clone, Copy)]
 pub enum HeaderWritten {
     Bytes(usize, Writer),
     Refused(Refusal, usize, Writer),
 }
 
 // How a part of it was written: to its end, with the next row, the place after it and the state; or refused.
-#[derive(Drop)]
+#[derive(Clone, Copy)]
 enum Wrote {
     Through(usize, usize, Writer),
     Refused(Refusal, usize, Writer),
@@ -55,67 +56,6 @@ pub fn header(
         Wrote::Through(_, at, v) => write_rows(v, src, rows, count, out, at),
         Wrote::Refused(e, at, v) => HeaderWritten::Refused(e, at, v),
     }
-}
-
-// Writes the scope of row `at`, one of the first `count` rows of a table, with all that is in it.
-pub fn scope(
-    w: Writer,
-    src: &[u8],
-    rows: &[u64],
-    count: usize,
-    at: RowNumber,
-    out: &mut [u8],
-) -> HeaderWritten
-    ensures { Does result out.new (scope_call w src.now rows.now count at.0 out.old) }
-{
-    if tree::place::misplaced(src, rows, count) {
-        return HeaderWritten::Refused(Refusal::BadPlace, 0, w);
-    }
-    if !tree::good_table(rows, count) {
-        return HeaderWritten::Refused(Refusal::BadTable, 0, w);
-    }
-    if !tree::is_scope(rows, count, at) {
-        return HeaderWritten::Refused(Refusal::BadTable, 0, w);
-    }
-    write_whole(w, src, rows, count, at.0 as usize, out)
-}
-
-// Row i, a scope, with the rows in it.
-fn write_whole(
-    w: Writer,
-    src: &[u8],
-    rows: &[u64],
-    n: usize,
-    i: usize,
-    out: &mut [u8],
-) -> HeaderWritten
-    requires { Inside src.now rows.now n × (is_good_table (rows_of rows.now n) ≡ true) × (is_scope_at rows.now n i ≡ true) }
-    ensures { Does result out.new (pour out.old 0 w (scope_meanings src.now i (rest rows.now n i))) }
-{
-    let end = scope_end(rows, n, i);
-    match write_item(w, src, rows, end, i, out, 0, rows::LEVELS) {
-        Wrote::Through(_, at, v) => HeaderWritten::Bytes(at, v),
-        Wrote::Refused(e, at, v) => HeaderWritten::Refused(e, at, v),
-    }
-}
-
-// The row after those in the scope of row i: the first whose parent stands before that row, or is none.
-fn scope_end(rows: &[u64], n: usize, i: usize) -> usize
-    requires { (i < n) × (n ≤ 4096) }
-    ensures { EndsAt rows.now n i result }
-{
-    let mut end = i + 1;
-    while end < n {
-        let parent = tree::parent_at(rows, end);
-        if parent == rows::TOP {
-            return end;
-        }
-        if parent < i as u64 {
-            return end;
-        }
-        end += 1;
-    }
-    end
 }
 
 // One command after the bytes that are written; `row` is the row to go on with.
@@ -192,7 +132,7 @@ fn write_rows(
     at: usize,
 ) -> HeaderWritten
     requires { (at ≤ length out.old) × Inside src.now rows.now n × (is_good_table (rows_of rows.now n) ≡ true) }
-    ensures { Does result out.new (pour out.old at w (all_meanings src.now (rows_of rows.now n))) }
+    ensures { Does result out.new (pour out.old at w (row_meanings src.now 0 [] (rows_of rows.now n))) }
 {
     match write_scope(w, src, rows, n, 0, out, at, rows::TOP, rows::LEVELS) {
         Wrote::Through(_, past, v) => match write_one(

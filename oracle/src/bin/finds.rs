@@ -1,6 +1,5 @@
-//! `finds`: looks up paths of names by the crate's `find_scope` and `find_var`, and the last name in the scope at the others by its
-//! `Scope::find_var`, and prints what they find, in the form that the port's program `find_tests` prints. Standard input: a dump,
-//! a line `--`, then paths, one a line, names parted by spaces.
+//! `finds`: looks up paths of names by the crate's `find_scope` and `find_var`, and prints what they find, in the form that
+//! the port's program `find_tests` prints. Standard input: a dump, a line `--`, then paths, one a line, names parted by spaces.
 //! `oracle/record` keeps the answers as that program's stored output.
 use oracle::form;
 use std::io::Read;
@@ -16,15 +15,9 @@ fn main() {
             Some(s) => println!("scope {} {}", s.scope_type, s.identifier),
             None => println!("scope -"),
         }
-        variable("var", header.find_var(&path));
-        let within = path.split_last().and_then(|(name, parent)| header.find_scope(parent)?.find_var(name));
-        variable("in", within);
-    }
-}
-
-fn variable(name: &str, found: Option<&vcd::Var>) {
-    match found {
-        Some(v) => println!("{name} {} {} {} {}", v.var_type, v.size, form::code(v.code), v.reference),
-        None => println!("{name} -"),
+        match header.find_var(&path) {
+            Some(v) => println!("var {} {} {} {}", v.var_type, v.size, form::code(v.code), v.reference),
+            None => println!("var -"),
+        }
     }
 }

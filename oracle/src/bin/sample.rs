@@ -28,7 +28,7 @@ fn main() -> io::Result<()> {
     let maker = Maker::new(kind, args::number(1, usage));
     let pool: Vec<Vec<u8>> = (0..POOL).map(|n| maker.case(n)).collect();
     let chosen = match kind {
-        Kind::List | Kind::Reformat | Kind::Strict | Kind::Verdict => fitting(kind, &pool, maker.recorded()),
+        Kind::List | Kind::Reformat => fitting(kind, &pool, maker.recorded()),
         _ => chosen(kind, &pool),
     };
     let mut out = BufWriter::new(io::stdout().lock());
@@ -128,7 +128,7 @@ fn marks(kind: Kind, case: &[u8]) -> Vec<String> {
         marks.extend(name);
         let words: Vec<&str> = line.split(' ').collect();
         match (kind, words[0]) {
-            (Kind::Write | Kind::List | Kind::Reformat | Kind::Verdict, _) => (),
+            (Kind::Write | Kind::List | Kind::Reformat, _) => (),
             (_, "scope" | "var" | "begin" | "end") => marks.push(words[..2].join(" ")),
             (_, "timescale" | "scalar") if words.len() > 2 => marks.push(format!("{} {}", words[0], words[2])),
             (Kind::Read, "refused") if words[1] != "3" => {

@@ -12,8 +12,6 @@ pub const DUMPS: &[&[u8]] = &[
     include_bytes!("../../dumps/fifo_fst2vcd.vcd"),
     include_bytes!("../../dumps/demo_eight.vcd"),
     include_bytes!("../../dumps/demo_named.vcd"),
-    include_bytes!("../../dumps/counter_yosys.vcd"),
-    include_bytes!("../../dumps/shift_yosys.vcd"),
 ];
 
 /// The start of a dump, for headers: each whole at first, then damaged.

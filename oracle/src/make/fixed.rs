@@ -30,12 +30,7 @@ pub fn all(kind: Kind) -> (Vec<Vec<u8>>, usize) {
     let (long_dumps, short_dumps): (Vec<&[u8]>, Vec<&[u8]>) = DUMPS.iter().partition(|dump| dump.len() > LONG);
     let mut cases: Vec<Vec<u8>> = own.into_iter().map(String::into_bytes).collect();
     cases.extend(short_dumps.into_iter().map(<[u8]>::to_vec));
-    let long_ones = match kind {
-        Kind::Reformat => 3,
-        Kind::Strict => 0,
-        _ => 2,
-    };
-    let recorded = cases.len() + long_ones;
+    let recorded = cases.len() + if kind == Kind::List { 2 } else { 3 };
     cases.extend(long().into_iter().map(String::into_bytes));
     cases.extend(long_dumps.into_iter().map(<[u8]>::to_vec));
     (cases, recorded)
@@ -84,8 +79,6 @@ fn changes() -> Vec<String> {
         under(&widths, "b1x !\n0!\nb0101 !\n"),
         under(&width(1_024), &format!("b{} !\nb{} !\n", many(1_024), many(1_025))),
         under(TWO, "X!\nZ!\n#1\nbXZxz \"\nBX \"\nZ\"\n"),
-        // request 2's two vectors, and the standard's examples
-        under("$var wire 2 ! x $end\n$var wire 4 \" z $end\n", "bx !\nbz1 \"\nb10 \"\nbX10 \"\nbZX0 \"\nb0X10 \"\n"),
         "$comment a $end$comment\nb\nc $end\n".to_string()
             + &under(
                 "$comment $end\n$var wire 1 ! a $end $comment d$end\n",

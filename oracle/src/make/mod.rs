@@ -5,9 +5,7 @@ mod dumps;
 mod fixed;
 mod headers;
 mod odd;
-mod reals;
 mod scripts;
-mod strict;
 mod walk;
 mod whole;
 
@@ -29,16 +27,13 @@ pub struct Maker {
 }
 
 /// The order of the sorts of cases, over and over: w exhaustive, o an odd token, d damaged copies,
-/// s simulators' dumps, t header trees or whole dumps, g dumps for strict mode, c random calls, p parts of a source,
-/// e texts at the edges, r random texts.
+/// s simulators' dumps, t header trees or whole dumps, c random calls, p parts of a source.
 fn pattern(kind: Kind) -> &'static [u8] {
     match kind {
         Kind::Read => b"wowdwowswdwowowdwswo",
         Kind::Header => b"wtotdtwsotdtwtosdtwt",
         Kind::Write => b"wcccpcwcccpcwccccpcc",
         Kind::List | Kind::Reformat => b"stwdtotwtdstwtotwdtw",
-        Kind::Real => b"errrrrrrrr",
-        Kind::Strict | Kind::Verdict => b"gtwdgogwgdsgwgotgdgw",
     }
 }
 
@@ -68,7 +63,7 @@ fn all_odds() -> Vec<Odd> {
 impl Maker {
     pub fn new(kind: Kind, seed: u64) -> Maker {
         let (fixed, recorded) = match kind {
-            Kind::List | Kind::Reformat | Kind::Strict | Kind::Verdict => fixed::all(kind),
+            Kind::List | Kind::Reformat => fixed::all(kind),
             _ => (Vec::new(), 0),
         };
         Maker { kind, seed, odds: all_odds(), texts: Texts::new(), fixed, recorded }
@@ -98,10 +93,7 @@ impl Maker {
             Kind::Read => self.read(sort, turn, &mut rng),
             Kind::Header => headers::with_rows(&self.header(sort, turn, &mut rng), &mut rng),
             Kind::Write => self.write(sort, turn, &mut rng),
-            Kind::Strict | Kind::Verdict if sort == b'g' => strict::some(&mut rng),
-            Kind::List | Kind::Reformat | Kind::Strict | Kind::Verdict => self.whole(sort, turn, &mut rng),
-            Kind::Real if sort == b'e' => reals::edge(self.walk(reals::edges(), turn)),
-            Kind::Real => reals::some(&mut rng),
+            Kind::List | Kind::Reformat => self.whole(sort, turn, &mut rng),
         }
     }
 

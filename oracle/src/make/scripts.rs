@@ -92,7 +92,7 @@ fn index(rng: &mut Rng) -> String {
 
 /// A call's numbers, as a line of a script has them after the room.
 fn call(source: &Source, rng: &mut Rng) -> String {
-    let number = 1 + rng.below(20);
+    let number = 1 + rng.below(19);
     let rest = match number {
         1..=3 => source.text(REMARK, rng),
         4 => {
@@ -111,7 +111,6 @@ fn call(source: &Source, rng: &mut Rng) -> String {
         16 => format!("{} {}", id(rng), source.text(NAME, rng)),
         17 | 18 => (1 + rng.below(4)).to_string(),
         19 => table(source, rng),
-        20 => scope(source, rng),
         _ => return number.to_string(),
     };
     format!("{number} {rest}")
@@ -138,25 +137,19 @@ fn row(source: &Source, parent: u64, rng: &mut Rng) -> (bool, String) {
     }
 }
 
-/// The words of a table and the count of its rows: in tree order, sometimes one past 64 scopes; then often a word changed, or too
-/// few or too many rows asked for.
-fn rows(source: &Source, rng: &mut Rng) -> (u64, Vec<u64>) {
+/// A header's head and table: rows in tree order, sometimes one past 64 scopes; then often a word changed, or too few
+/// or too many rows asked for.
+fn table(source: &Source, rng: &mut Rng) -> String {
     let mut open = Vec::new();
     let mut words: Vec<u64> = Vec::new();
     let numbers = |s: &str| -> Vec<u64> { s.split(' ').map(|n| n.parse().expect("a word")).collect() };
     let deep = if rng.one_in(16) { 63 + rng.below(3) } else { 0 };
     let few = rng.below(7);
     for n in 0..deep + few {
-        let parent = if n < deep {
-            open.last().copied()
-        } else {
-            rng.pick(&[open.first().copied(), open.last().copied(), None])
-        };
+        let parent = if n < deep { open.last().copied() } else { rng.pick(&[open.first().copied(), open.last().copied(), None]) };
         open.truncate(parent.map_or(0, |p| 1 + open.iter().position(|o| *o == p).expect("an open scope")));
         let (is_scope, row) = match n < deep {
-            true => {
-                (true, format!("1 {} 0 0 0 {} {} 0 0 0", parent.unwrap_or(TOP), source.texts[1].1, source.texts[1].2))
-            }
+            true => (true, format!("1 {} 0 0 0 {} {} 0 0 0", parent.unwrap_or(TOP), source.texts[1].1, source.texts[1].2)),
             false => row(source, parent.unwrap_or(TOP), rng),
         };
         words.extend(numbers(&row));
@@ -174,40 +167,17 @@ fn rows(source: &Source, rng: &mut Rng) -> (u64, Vec<u64>) {
         3 => words.extend((0..rng.below(ROW)).map(|n| n as u64)),
         _ => (),
     }
-    (count, words)
-}
-
-fn listed(line: &mut String, words: &[u64]) {
-    for word in words {
-        let _ = write!(line, " {word}");
-    }
-}
-
-/// A header's head and table.
-fn table(source: &Source, rng: &mut Rng) -> String {
-    let (count, words) = rows(source, rng);
     let kept = |sort: &str| format!("1 {sort}");
     let mut head = [count.to_string(), "0 0 0".into(), "0 0 0".into(), "0 0 0".into()];
-    for (at, of) in [
-        (1, source.text(REMARK, rng)),
-        (2, source.text(REMARK, rng)),
-        (3, format!("{} {}", rng.pick(&[1, 99_999_999, 100_000_000]), rng.below(6))),
-    ] {
+    for (at, of) in [(1, source.text(REMARK, rng)), (2, source.text(REMARK, rng)), (3, format!("{} {}", rng.pick(&[1, 99_999_999, 100_000_000]), rng.below(6)))] {
         if rng.one_in(3) {
             head[at] = kept(&of);
         }
     }
     let mut line = head.join(" ");
-    listed(&mut line, &words);
-    line
-}
-
-/// A scope's number, mostly one of the first rows, and its table.
-fn scope(source: &Source, rng: &mut Rng) -> String {
-    let (count, words) = rows(source, rng);
-    let row = if rng.one_in(16) { rng.pick(&[count, count.wrapping_add(1), TOP, 70]) } else { rng.below(4) as u64 };
-    let mut line = format!("{row} {count}");
-    listed(&mut line, &words);
+    for word in words {
+        let _ = write!(line, " {word}");
+    }
     line
 }
 

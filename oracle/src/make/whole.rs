@@ -16,14 +16,14 @@ const STRAY: &[&[u8]] = &[
 ];
 
 /// A few codes, one of them twice as often.
-pub struct Codes(pub Vec<&'static str>);
+struct Codes(Vec<&'static str>);
 
 impl Codes {
-    pub fn new(rng: &mut Rng) -> Codes {
+    fn new(rng: &mut Rng) -> Codes {
         Codes((0..2 + rng.below(3)).map(|_| rng.pick(CODES)).collect())
     }
 
-    pub fn pick(&self, rng: &mut Rng) -> &'static str {
+    fn pick(&self, rng: &mut Rng) -> &'static str {
         if rng.one_in(20) {
             return rng.pick(CODES);
         }
@@ -83,18 +83,13 @@ fn scope(out: &mut Vec<u8>, depth: &mut usize, rng: &mut Rng) {
 }
 
 fn var(out: &mut Vec<u8>, codes: &Codes, rng: &mut Rng) {
-    let code = codes.pick(rng);
-    var_of(out, code, rng);
-}
-
-pub fn var_of(out: &mut Vec<u8>, code: &str, rng: &mut Rng) {
-    let (sort, width, name) = (rng.pick(&VARS), rng.pick(WIDTHS), rng.pick(NAMES));
+    let (sort, width, code, name) = (rng.pick(&VARS), rng.pick(WIDTHS), codes.pick(rng), rng.pick(NAMES));
     let index = rng.pick(&["", "", "[7:0] ", "[-1] "]);
     let text = format!("$var {sort} {width} {code} {name} {index}$end{}", blank(rng));
     out.extend_from_slice(text.as_bytes());
 }
 
-pub fn data(out: &mut Vec<u8>, codes: &Codes, count: usize, rng: &mut Rng) {
+fn data(out: &mut Vec<u8>, codes: &Codes, count: usize, rng: &mut Rng) {
     let mut time = if rng.one_in(10) { size(rng) } else { 0 };
     for _ in 0..count {
         match rng.below(40) {
@@ -110,7 +105,7 @@ pub fn data(out: &mut Vec<u8>, codes: &Codes, count: usize, rng: &mut Rng) {
     }
 }
 
-pub fn change(out: &mut Vec<u8>, code: &str, rng: &mut Rng) {
+fn change(out: &mut Vec<u8>, code: &str, rng: &mut Rng) {
     let value = |rng: &mut Rng| rng.pick(&['0', '1', 'x', 'X', 'z', 'Z']);
     let first = match rng.below(8) {
         0 => format!("{}{} ", rng.pick(&["r", "R"]), rng.pick(REALS)),

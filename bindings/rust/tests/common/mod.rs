@@ -12,16 +12,9 @@ pub fn file(path: &str) -> Vec<u8> {
     fs::read(root().join(path)).unwrap_or_else(|e| panic!("{path}: {e}"))
 }
 
-/// The jobs, whose cases and answers stand one after the other in those of one program.
-const JOBS: [&str; 3] = ["list", "reformat", "verdict"];
-
-/// The program that a kind's cases are recorded for.
+/// The program that a kind's cases are recorded for: both jobs have one.
 fn program(kind: &str) -> &str {
-    if JOBS.contains(&kind) {
-        "job"
-    } else {
-        kind
-    }
+    if matches!(kind, "list" | "reformat") { "job" } else { kind }
 }
 
 /// The recorded cases of a kind. Where a program has several kinds, each stream of cases stands after a line with its name.
@@ -44,18 +37,16 @@ pub fn cases(kind: &str) -> Vec<Vec<u8>> {
     cases
 }
 
-/// The recorded answers to them: those of a further job begin at a further case 0.
+/// The recorded answers to them: those of the second kind begin at the second case 0.
 pub fn answers(kind: &str) -> Vec<u8> {
     let all = file(&format!("crates/replay_{}/stdout", program(kind)));
-    let Some(job) = JOBS.iter().position(|of| *of == kind) else {
-        return all;
-    };
     let mark = b"\ncase 0\n";
-    let mut starts = vec![0];
-    starts.extend(all.windows(mark.len()).enumerate().filter(|(_, w)| w == mark).map(|(at, _)| at + 1));
-    starts.push(all.len());
-    assert_eq!(starts.len(), JOBS.len() + 1);
-    all[starts[job]..starts[job + 1]].to_vec()
+    let second = all.windows(mark.len()).position(|w| w == mark);
+    match (kind, second) {
+        ("list", Some(at)) => all[..=at].to_vec(),
+        ("reformat", Some(at)) => all[at + 1..].to_vec(),
+        _ => all,
+    }
 }
 
 /// Takes a line of ASCII off the front.

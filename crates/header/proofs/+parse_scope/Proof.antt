@@ -123,8 +123,8 @@ loop-again-2 t c =
     let f = rw c.before.e.given.1 at c.before.before.before.before.before.parse-scope.ensures in
     (c.before.before.before.before.before.parse-scope.auto.1.1.0 ∙ c.before.before.before.before.before.before.before.before.before.before.before.before.take-item.auto.1.1.0 ∙ b.0, reached-scope b.1 _ _ _ _ _ g f)
 
-enum-known-x : (t : ℕ) → lts.Need-enum-known-x (calls t) (own t) reads.Post Inv μ
-enum-known-x t c = search rules
+enum-known-r : (t : ℕ) → lts.Need-enum-known-r (calls t) (own t) reads.Post Inv μ
+enum-known-r t c = search rules
 
 same_length : (t : ℕ) → lts.Need-same-length (calls t) (own t) reads.Post Inv μ
 same_length t c = c.before.before.before.before.before.parse-scope.auto.1.1.0 ∙ c.before.before.before.before.before.before.before.before.before.before.before.before.take-item.auto.1.1.0 ∙ (past-vars t c.before.before.before.before.before.before.before.before.before.before.before.before.before.before.before.before).0
@@ -132,8 +132,8 @@ same_length t c = c.before.before.before.before.before.parse-scope.auto.1.1.0 �
 returns : (t : ℕ) → lts.Need-returns (calls t) (own t) reads.Post Inv μ
 returns t c =
     let g = rw c.before.before.before.before.before.before.before.before.d2.given.1 at c.before.before.before.before.before.before.before.before.before.before.before.before.take-item.ensures in
-    let f = rw c.before.x.given.1 at c.before.before.before.before.before.parse-scope.ensures in
-    ends-within (past-vars t c.before.before.before.before.before.before.before.before.before.before.before.before.before.before.before.before).1 _ _ _ _ _ _ g f
+    let f = rw c.before.r.given.1 at c.before.before.before.before.before.parse-scope.ensures in
+    ends-within (past-vars t c.before.before.before.before.before.before.before.before.before.before.before.before.before.before.before.before).1 _ _ _ _ _ _ _ g f
 
 enum-known-k : (t : ℕ) → lts.Need-enum-known-k (calls t) (own t) reads.Post Inv μ
 enum-known-k t c = search rules
@@ -149,15 +149,15 @@ returns-2 t c =
     let g = rw c.before.before.k.given.1 at c.before.before.before.before.before.before.take-item.ensures in
     ends-other (past-vars t c.before.before.before.before.before.before.before.before.before.before).1 _ _ _ _ g c.close.ensures
 
-enum-known-r : (t : ℕ) → lts.Need-enum-known-r (calls t) (own t) reads.Post Inv μ
-enum-known-r t c = search rules
+enum-known-r-2 : (t : ℕ) → lts.Need-enum-known-r-2 (calls t) (own t) reads.Post Inv μ
+enum-known-r-2 t c = search rules
 
 same-length-3 : (t : ℕ) → lts.Need-same-length-3 (calls t) (own t) reads.Post Inv μ
 same-length-3 t c = c.before.before.before.before.before.take-item.auto.1.1.0 ∙ (past-vars t c.before.before.before.before.before.before.before.before.before).0
 
 returns-3 : (t : ℕ) → lts.Need-returns-3 (calls t) (own t) reads.Post Inv μ
 returns-3 t c =
-    let g = rw c.before.r.given.1 at c.before.before.before.before.before.take-item.ensures in
+    let g = rw c.before.r2.given.1 at c.before.before.before.before.before.take-item.ensures in
     ends-refused (past-vars t c.before.before.before.before.before.before.before.before.before).1 _ _ _ _ g
 
 pub +parse-scope-spec : {M : Type 1} → statement M
@@ -180,13 +180,13 @@ pub +parse-scope-spec : {M : Type 1} → statement M
     (enum-known-e t)
     (loop-less-2 t)
     (loop-again-2 t)
-    (enum-known-x t)
+    (enum-known-r t)
     (same_length t)
     (returns t)
     (enum-known-k t)
     (close-requires t)
     (same-length-2 t)
     (returns-2 t)
-    (enum-known-r t)
+    (enum-known-r-2 t)
     (same-length-3 t)
     (returns-3 t)

@@ -165,7 +165,7 @@ item-returns-5 t c =
     let a = c.before.before.before.before.before.before.before.before.before.before.before.args in
     let l = c.before.before.before.before.before.before.before.before.before.before.before.requires.1.0 in
     leaf a.src.now a.rows.now a.n a.levels a.i a.out.now a.at a.w l _
-    (λ bs ms st k g. here-comment a.src.now a.rows.now a.n a.i bs ms st l k g (sym c.before.before.before.before.before.before.before.row-at.ensures ∙ c.before.before.before.before.before.t.given.1))
+    (λ st k g. here-comment a.src.now a.rows.now a.n a.i st l k g (sym c.before.before.before.before.before.before.before.row-at.ensures ∙ c.before.before.before.before.before.t.given.1))
     c.before.before.write-one2.result _ c.before.before.write-one2.ensures
 
 item-returns-6 : (t : ℕ) → item-lts.Need-returns-6 (item-calls t) (item-at t) item.Post
@@ -183,7 +183,7 @@ abbrev μ : scope-lts.decreases-loop
 μ src rows n from out₀ at me levels v₀ i₀ place₀ out v i place = n - i
 
 scope-loop-holds : (t : ℕ) → scope-lts.Need-loop-init (scope-calls t) (scope-at t) scope.Post Inv μ
-scope-loop-holds t c = (omega arith, c.before.before.before.requires.1.0, c.before.before.before.requires.1.3, refl, λ bs ms st z h k g. (g, refl))
+scope-loop-holds t c = (omega arith, c.before.before.before.requires.1.0, c.before.before.before.requires.1.3, refl, λ st h k g. (g, refl))
 
 scope-parent-at-requires : (t : ℕ) → scope-lts.Need-parent-at-requires (scope-calls t) (scope-at t) scope.Post Inv μ
 scope-parent-at-requires t c κs = search rules

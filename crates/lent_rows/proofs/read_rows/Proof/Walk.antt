@@ -6,18 +6,18 @@ use Prim.Native.Nat.{ℕ, ◌<◌, ◌^◌}
 use mathlib.Core.List.{[], ◌∷◌, List}
 use lib.ListN.{length, replicate}
 use lib.Dec.{T, lit<}
-use seplogic.RA.Ura.{Ura}
-use seplogic.RA.TreeShare.{full_share}
-use mir.Syntax.{Ty, named, w64, erased, imm, mut, ty_int, ty_unit, ty_ref}
+use seplogic.Ra.Ura.{Ura}
+use seplogic.Ra.TreeShare.{full_share}
+use mir.Syntax.{named, w64, erased, mut, ty_ref}
 use mir.Val.{Val, vint}
 use base.Logic.{SProp, ent, id⊢}
-use base.Fml.{Lft, Share, GName, Fml, fsep, ftrue, fat, froom, fdies, flft, flent}
+use base.Fml.{Lft, Share, GName, Fml, fsep, ftrue, fat, flft, flent}
 use prog.Memory.{Memory}
 use prog.Routine.{Routine}
-use prog.Wp.{Env, Calls, Loops, WpFn}
+use prog.Wp.{Calls, Loops, WpFn}
 use types.Logic.{Logic}
 use contract.Monad.{Fun, fact}
-use types.Kit.{Sq, runs, at_ret, ‵, raw, some, later, ◌⊛◌, ⋆, ◌$◌, ◌∵◌, !, qed, move, keep, drop, use1, use2, use3, split, join, pick, rewrite, fsplit, fjoin, feq_l, suffices, frame, await, done}
+use types.Kit.{‵, raw, some, later, ◌⊛◌, ⋆, ◌$◌, ◌∵◌, !, qed, move, keep, drop, use1, use2, use3, split, join, pick, rewrite, fsplit, fjoin, feq_l, suffices, frame, await, done}
 use types.Run.{look, init, forget, stop, fld, from, load, lit, addr, of_opd, and_then, no_more, assigns, land, enter, alloc1, alloc0, params1, pass1, pass0}
 use types.Part.{agg, rep, whole, sub, look_in}
 use types.SemTy.{cells, Arr}
@@ -54,7 +54,7 @@ use Rattle.token.proofs.Cursor.TheLaws as Cu'
 use Rattle.lent_rows.specs.declared.HeaderRow.{HeaderRow}
 use Rattle.lent_rows.specs.Rows.{header_in, header_into, placed, blank}
 use Rattle.lent_rows.proofs.Flat.{blank-length, read}
-use Rattle.lent_rows.proofs.Local.{arr, repeat-is, taken, big}
+use Rattle.lent_rows.proofs.Local.{repeat-is, taken, big}
 use Rattle.lent_rows.specs.contracts.HeaderRow as T
 use Rattle.lent_rows.specs.contracts.read_flat as read-flat
 use Rattle.lent_rows.proofs.read_flat.Symbol.{name as #lent-rows·read-flat}
@@ -62,7 +62,6 @@ use Rattle.lent_rows.proofs.fill.Symbol.{name as #lent-rows·fill}
 use Rattle.lent_rows.proofs.read_rows.Proof.Fills.{N, N-room, x, sv, Fill, fills}
 use Rattle.lent_rows.specs.contracts.read_rows as f
 use Rattle.lent_rows.proofs.read_rows.Code as code
-use Rattle.lent_rows.proofs.read_rows.Code.Mir as body
 
 abbrev pub stayed : Stays (f.ended).signature.params (f.ended).kept
 stayed = (stay_dropped (shr_slice_of (0 ∷ []) tt (plain (λ _. u8))) yes, (stay_dropped (plain (λ _. Cu.the_row)) yes, (gave_slice (1 ∷ []) tt (plain (λ _. T.the_row)), tt)))
@@ -146,77 +145,40 @@ module _ {M : Type 1} {𝓤 : Ura M} (𝓛 : Logic 𝓤) (at_mem : Memory → SP
     SaidFlat r zs = (r ≡ answer_of (header_into sr.now c zeros (length ys))) × (zs ≡ filled (header_into sr.now c zeros (length ys)).rows zeros)
 
   module _ (C : Calls 𝓤 H) (Λ : Loops 𝓤 H) (fm : FmC 𝓤 H 𝓛.laws C) (known-flat : Triple 𝓤 (C #lent-rows·read-flat) (ReadFlat 𝓛 at_mem run)) (known-fill : Triple 𝓤 (C #lent-rows·fill) (Fill 𝓛 at_mem run)) where
-    -- the locals, with the cursor's type left open and the answer's by its name: written out they are long, and every step would carry them
-    module _ (τ₂ : Ty) (l₀ l₁ l₂ l₃ l₄ l₅ l₆ l₇ l₈ l₉ l₁₀ l₁₁ l₁₂ l₁₃ : ℕ) where
-      abbrev Ss : Ty
-      Ss = slice_ty (ty_ref (named 0) imm (pointee u8.written))
-
-      abbrev Rs : Ty
-      Rs = slice_ty (ty_ref (named 1) mut (pointee (T.the_row).written))
-
-      abbrev Ar : Ty
-      Ar = arr 𝓛 u64 tt N l₄
-
-      abbrev Ma : Ty
-      Ma = ty_ref erased mut Ar
-
-      abbrev Sm : Ty
-      Sm = slice_ty (ty_ref erased mut (pointee u64.written))
-
-      abbrev Ra : Ty
-      Ra = ty_ref erased imm Ar
-
-      abbrev Sa : Ty
-      Sa = slice_ty (ty_ref erased imm (pointee u64.written))
-
-      abbrev Re : Ty
-      Re = ty_ref erased mut (pointee (T.the_row).written)
-
-      abbrev E : Env 𝓤 H
-      E = (D'.mir, l₀) ∷ (Ss, l₁) ∷ (τ₂, l₂) ∷ (Rs, l₃) ∷ (Ar, l₄) ∷ (D'.mir, l₅) ∷ (Ma, l₆) ∷ (Sm, l₇) ∷ (ty_int w64, l₈) ∷ (ty_unit, l₉) ∷ (Ra, l₁₀) ∷ (Sa, l₁₁) ∷ (Re, l₁₂) ∷ (slice_ty Re, l₁₃) ∷ []
-
-      runs_on : Sq 𝓛 (‵ Src ∷ ‵ (flft κ q) ∷ ‵ Rows ∷ (‵ (flft κ' q') ⊛ ‵ ftrue)
-          ∷ ‵ (froom (slice_ty Re) l₁₃ 0) ∷ ‵ (fdies (slice_ty Re) l₁₃) ∷ ‵ (froom Re l₁₂ 0) ∷ ‵ (fdies Re l₁₂) ∷ ‵ (froom Sa l₁₁ 0) ∷ ‵ (fdies Sa l₁₁) ∷ ‵ (froom Ra l₁₀ 0) ∷ ‵ (fdies Ra l₁₀) ∷ ‵ (froom ty_unit l₉ 0) ∷ ‵ (fdies ty_unit l₉)
-          ∷ ‵ (froom (ty_int w64) l₈ 0) ∷ ‵ (fdies (ty_int w64) l₈) ∷ ‵ (froom Sm l₇ 0) ∷ ‵ (fdies Sm l₇) ∷ ‵ (froom Ma l₆ 0) ∷ ‵ (fdies Ma l₆) ∷ ‵ (froom D'.mir l₅ 0) ∷ ‵ (fdies D'.mir l₅) ∷ ‵ (froom Ar l₄ 0) ∷ ‵ (fdies Ar l₄)
-          ∷ ‵ (fat full_share Rs l₃ 0 rs) ∷ ‵ (fdies Rs l₃) ∷ ‵ (fat full_share τ₂ l₂ 0 cv) ∷ ‵ (fdies τ₂ l₂) ∷ ‵ (fat full_share Ss l₁ 0 ss) ∷ ‵ (fdies Ss l₁) ∷ ‵ (froom D'.mir l₀ 0) ∷ ‵ (fdies D'.mir l₀) ∷ [])
-          (runs C Λ E body.t-1 (at_ret E Post))
-      runs_on =
-          -- [the input and the cursor; the input's token; rows; their token; _13; …; room for _0; …]
-          assigns ! (rep ! N (lit ! tt)) (from ! (stop !)) (init ! 22 refl (Array-Typed u64 (uint_Lawful 𝓛 w64).typed N (replicate N 0) _ (repeat-is u64 0 (vint w64 0) (refl, lit< tt) N)).0) $
-          -- the array is taken apart at once, at the list that stays shut
-          move ! (22 ∷ []) $ owned ! u64 (Is u64) (uint_Makes 𝓛 w64) 0 (vint w64 0 ∷ []) (refl, lit< tt) $ use2 𝓛 (‵ (row u64 full_share (replicate N 0) l₄ 0)) (taken 𝓛 u64 tt N l₄ (uint_copy 𝓛 w64) 0 (vint w64 0)) $
-          rewrite ! 0 (λ (t : List ℕ). ‵ (row u64 full_share t l₄ 0)) zeros-is refl $
-          assigns ! (addr ! (from ! (stop !))) (from ! (stop !)) (init ! 19 refl (tt, tt)) $
-          assigns ! (agg ! (and_then ! (load ! (from ! (stop !)) (look ! 19 refl)) (and_then ! (big ! (record { fits = lit< tt })) (no_more !)))) (from ! (stop !)) (init ! 17 refl (tt, (tt, (record { fits = lit< tt }, tt)))) $
-          rewrite ! 17 (λ (k : ℕ). ‵ (fat full_share (slice_ty (ty_ref erased mut (pointee u64.written))) l₇ 0 (sv l₄ k))) zeros-length refl $
-          assigns ! (of_opd ! (load ! (from ! (fld ! refl (stop !))) (look_in ! 24 (sub ! 1 refl (whole !))))) (from ! (stop !)) (init ! 15 refl (tt, record { fits = r-room.0 })) $
-          -- it is lent for the lifetime ν
-          use1 𝓛 (‵ (cells (mem u64) zeros l₄ 0)) (whole_in 𝓛 u64 zeros l₄ 0) $ lft_new ! tt (λ ν. move ! (1 ∷ []) $
-          use1 𝓛 (later (some (λ (δ : GName). ‵ ((MutSlice (named 1) (ν ∷ []) u64).own_val (x l₄ δ zeros) (sv l₄ (length zeros) ∷ [])) ⊛ ‵ (flent (ν ∷ []) (Held u64 (length zeros) l₄ 0 δ))))) (lends_slice 𝓛 u64 (named 1) (ν ∷ []) zeros l₄ 0 (subst (Room u64) zeros-length N-room)) $ await ! tt $ pick ! (λ δ. split ! $
-          -- [the array's borrow; the lender's part; ν's token; the input and the cursor; its token; rows; their token; _13; …]
-          move ! (4 ∷ 2 ∷ 3 ∷ 0 ∷ []) $ join ! $ use3 𝓛 (raw ((ReadFlat 𝓛 at_mem run).pre (to-flat l₄ ν δ))) (goes_flat l₄ ν δ) $
-          calls_at ! fm (ReadFlat 𝓛 at_mem run) known-flat (to-flat l₄ ν δ) (and_then ! (load ! (from ! (stop !)) (look ! 27 refl)) (and_then ! (load ! (from ! (stop !)) (look ! 25 refl)) (and_then ! (load ! (from ! (stop !)) (look ! 16 refl)) (and_then ! (load ! (from ! (stop !)) (look ! 14 refl)) (no_more !))))) (λ w.
-          use1 𝓛 (later (some (λ (r : HeaderAnswer). ((‵ (flft κ q) ⊛ ‵ (flft (ν ∷ []) full_share) ⊛ ‵ ftrue) ⊛ ‵ ((D.the_row).own_val r (w ∷ []))) ⊛ raw (ensured 𝓛 read-flat.ended (read-flat.clauses 𝓛 at_mem run) (κ, (ν ∷ [], tt)) (sr, (c, (x l₄ δ zeros, (length ys, tt)))) tt r)))) (id⊢ 𝓤 _) $ await ! tt $ pick ! (λ r.
-          split ! $ move ! (1 ∷ []) $ use1 𝓛 (some (λ (vs : Unit {0} × (Unit {0} × (List ℕ × (Unit {0} × Unit {0})))). ‵ (lasts read-flat.ended (κ, (ν ∷ [], tt)) (sr, (c, (x l₄ δ zeros, (length ys, tt)))) vs) ⊛ raw (fact 𝓤 (SaidFlat l₄ r vs.1.1.0)))) (id⊢ 𝓤 _) $ pick ! (λ vs.
-          split ! $ move ! (1 ∷ []) $ heard ! (SaidFlat l₄ r vs.1.1.0) (λ e. fsplit ! $ drop ! $ fsplit ! $ drop ! $ fsplit ! $ fsplit ! $ move ! (1 ∷ []) $ feq_l ! (λ len₀.
-          let zs : List ℕ = vs.1.1.0 in
-          let len : length zs ≡ N = len₀ ∙ sym zeros-length in
-          move ! (2 ∷ []) $ split ! $ move ! (1 ∷ []) $ peeks ! D.the_row (Is D.the_row) (shows 𝓛 D.the_row) r (w ∷ []) (λ is.
-          let told = LL.tells D.the_type D'.the_laws r _ is in
-          let r-is = subst (Is D.the_row r) told is in
-          let fits : r.count < 2 ^ 64 = (LL.owed D.the_type D'.the_laws r _ is).1.0.1 in
-          land ! (from ! (stop !)) (init ! 23 refl ((LL.lawful D.the_type D'.the_laws 𝓛).typed r _ is).0) $ rewrite ! 23 (λ (u : Val). ‵ (fat full_share D'.mir l₅ 0 u)) (ap only told) refl $ drop ! $
-          -- the lifetime is ended, and the array comes back
-          split ! $ move ! (1 ∷ []) $ split ! $ lft_end ! tt $ move ! (0 ∷ 5 ∷ 3 ∷ []) $ use3 𝓛 (later (‵ ((Arr (mem u64) (length zeros)).own_at zs l₄ 0))) (slice_back 𝓛 u64 (ν ∷ []) δ zs (length zeros) l₄ 0) $ await ! tt $ fsplit ! $ drop ! $ use1 𝓛 (‵ (row u64 full_share zs l₄ 0)) (whole_out 𝓛 u64 zs l₄ 0) $
-          -- [the array's row; true; the input's token; true; rows; their token; _13; …; _5; …; _4's end; _3; …; room for _0; …]
-          forget ! 16 refl $ forget ! 18 refl $ forget ! 20 refl $ forget ! 27 refl $ forget ! 29 refl $ keep ! (0 ∷ 2 ∷ 4 ∷ 5 ∷ 6 ∷ 7 ∷ 8 ∷ 9 ∷ 10 ∷ 11 ∷ 12 ∷ 13 ∷ 14 ∷ 15 ∷ 16 ∷ 17 ∷ 18 ∷ 19 ∷ 20 ∷ 21 ∷ 22 ∷ 23 ∷ 24 ∷ 25 ∷ 26 ∷ 27 ∷ 28 ∷ 29 ∷ 30 ∷ 31 ∷ 32 ∷ []) $
-          fills 𝓛 at_mem run κ κ' q q' rw r-room Post C Λ fm known-fill _ _ _ _ _ _ _ _ l₀ l₁ l₂ l₃ l₄ l₅ l₆ l₇ l₈ l₉ l₁₀ l₁₁ l₁₂ l₁₃ zs r.count _ _ len fits ((LL.lawful D.the_type D'.the_laws 𝓛).typed r _ r-is).0
-          (λ us e' l. exits r us (read sr.now c ys us r zs e e') l _ r-is)))))))))
-
     pub walk : ent 𝓤 (on_entry 𝓛 f.signature (κ, (κ', tt)) (q, (q', tt)) a vals) (WpFn 𝓤 H C Λ code.function (ss ∷ cv ∷ rs ∷ []) Post)
     walk =
         qed 𝓛 ((‵ (flft κ q) ⊛ ‵ (flft κ' q') ⊛ ‵ ftrue) ∷ ‵ (owns (ShrSlice (named 0) κ u8 ∷ Cu.the_row ∷ MutSlice (named 1) κ' T.the_row ∷ []) a vals) ∷ []) ∵ enter ! C Λ code.function (ss ∷ cv ∷ rs ∷ []) _ $
         alloc1 ! (λ l₀. alloc1 ! (λ l₁. alloc1 ! (λ l₂. alloc1 ! (λ l₃. alloc1 ! (λ l₄. alloc1 ! (λ l₅. alloc1 ! (λ l₆. alloc1 ! (λ l₇. alloc1 ! (λ l₈. alloc1 ! (λ l₉. alloc1 ! (λ l₁₀. alloc1 ! (λ l₁₁. alloc1 ! (λ l₁₂. alloc1 ! (λ l₁₃. alloc0 ! $ params1 ! $
         pass1 ! (init ! 24 refl (tt, (tt, (record { fits = s-room.0 }, tt)))) $ pass1 ! (init ! 22 refl ((LL.lawful Cu.the_type Cu'.the_laws 𝓛).typed c _ c-is).0) $ pass1 ! (init ! 20 refl (tt, (tt, (record { fits = r-room.0 }, tt)))) $ pass0 ! $
         move ! (29 ∷ []) $ fsplit ! $ move ! (1 ∷ []) $ fsplit ! $ move ! (1 ∷ []) $ fsplit ! $ move ! (3 ∷ 2 ∷ []) $ fjoin ! $ move ! (31 ∷ []) $ split ! $ keep ! (2 ∷ 0 ∷ 3 ∷ 1 ∷ 5 ∷ 6 ∷ 7 ∷ 8 ∷ 9 ∷ 10 ∷ 11 ∷ 12 ∷ 13 ∷ 14 ∷ 15 ∷ 16 ∷ 17 ∷ 18 ∷ 19 ∷ 20 ∷ 21 ∷ 22 ∷ 23 ∷ 24 ∷ 25 ∷ 26 ∷ 27 ∷ 28 ∷ 29 ∷ 30 ∷ 31 ∷ 32 ∷ []) $
-        runs_on Cu'.mir l₀ l₁ l₂ l₃ l₄ l₅ l₆ l₇ l₈ l₉ l₁₀ l₁₁ l₁₂ l₁₃))))))))))))))
+        -- [the input and the cursor; the input's token; rows; their token; _13; …; room for _0; …]
+        assigns ! (rep ! N (lit ! tt)) (from ! (stop !)) (init ! 22 refl (Array-Typed u64 (uint_Lawful 𝓛 w64).typed N (replicate N 0) _ (repeat-is u64 0 (vint w64 0) (refl, lit< tt) N)).0) $
+        -- the array is taken apart at once, at the list that stays shut
+        move ! (22 ∷ []) $ owned ! u64 (Is u64) (uint_Makes 𝓛 w64) 0 (vint w64 0 ∷ []) (refl, lit< tt) $ use2 𝓛 (‵ (row u64 full_share (replicate N 0) l₄ 0)) (taken 𝓛 u64 tt N l₄ (uint_copy 𝓛 w64) 0 (vint w64 0)) $
+        rewrite ! 0 (λ (t : List ℕ). ‵ (row u64 full_share t l₄ 0)) zeros-is refl $
+        assigns ! (addr ! (from ! (stop !))) (from ! (stop !)) (init ! 19 refl (tt, tt)) $
+        assigns ! (agg ! (and_then ! (load ! (from ! (stop !)) (look ! 19 refl)) (and_then ! (big ! (record { fits = lit< tt })) (no_more !)))) (from ! (stop !)) (init ! 17 refl (tt, (tt, (record { fits = lit< tt }, tt)))) $
+        rewrite ! 17 (λ (k : ℕ). ‵ (fat full_share (slice_ty (ty_ref erased mut (pointee u64.written))) l₇ 0 (sv l₄ k))) zeros-length refl $
+        assigns ! (of_opd ! (load ! (from ! (fld ! refl (stop !))) (look_in ! 24 (sub ! 1 refl (whole !))))) (from ! (stop !)) (init ! 15 refl (tt, record { fits = r-room.0 })) $
+        -- it is lent for the lifetime ν
+        use1 𝓛 (‵ (cells (mem u64) zeros l₄ 0)) (whole_in 𝓛 u64 zeros l₄ 0) $ lft_new ! tt (λ ν. move ! (1 ∷ []) $
+        use1 𝓛 (later (some (λ (δ : GName). ‵ ((MutSlice (named 1) (ν ∷ []) u64).own_val (x l₄ δ zeros) (sv l₄ (length zeros) ∷ [])) ⊛ ‵ (flent (ν ∷ []) (Held u64 (length zeros) l₄ 0 δ))))) (lends_slice 𝓛 u64 (named 1) (ν ∷ []) zeros l₄ 0 (subst (Room u64) zeros-length N-room)) $ await ! tt $ pick ! (λ δ. split ! $
+        -- [the array's borrow; the lender's part; ν's token; the input and the cursor; its token; rows; their token; _13; …]
+        move ! (4 ∷ 2 ∷ 3 ∷ 0 ∷ []) $ join ! $ use3 𝓛 (raw ((ReadFlat 𝓛 at_mem run).pre (to-flat l₄ ν δ))) (goes_flat l₄ ν δ) $
+        calls_at ! fm (ReadFlat 𝓛 at_mem run) known-flat (to-flat l₄ ν δ) (and_then ! (load ! (from ! (stop !)) (look ! 27 refl)) (and_then ! (load ! (from ! (stop !)) (look ! 25 refl)) (and_then ! (load ! (from ! (stop !)) (look ! 16 refl)) (and_then ! (load ! (from ! (stop !)) (look ! 14 refl)) (no_more !))))) (λ w.
+        use1 𝓛 (later (some (λ (r : HeaderAnswer). ((‵ (flft κ q) ⊛ ‵ (flft (ν ∷ []) full_share) ⊛ ‵ ftrue) ⊛ ‵ ((D.the_row).own_val r (w ∷ []))) ⊛ raw (ensured 𝓛 read-flat.ended (read-flat.clauses 𝓛 at_mem run) (κ, (ν ∷ [], tt)) (sr, (c, (x l₄ δ zeros, (length ys, tt)))) tt r)))) (id⊢ 𝓤 _) $ await ! tt $ pick ! (λ r.
+        split ! $ move ! (1 ∷ []) $ use1 𝓛 (some (λ (vs : Unit {0} × (Unit {0} × (List ℕ × (Unit {0} × Unit {0})))). ‵ (lasts read-flat.ended (κ, (ν ∷ [], tt)) (sr, (c, (x l₄ δ zeros, (length ys, tt)))) vs) ⊛ raw (fact 𝓤 (SaidFlat l₄ r vs.1.1.0)))) (id⊢ 𝓤 _) $ pick ! (λ vs.
+        split ! $ move ! (1 ∷ []) $ heard ! (SaidFlat l₄ r vs.1.1.0) (λ e. fsplit ! $ drop ! $ fsplit ! $ drop ! $ fsplit ! $ fsplit ! $ move ! (1 ∷ []) $ feq_l ! (λ len₀.
+        let zs : List ℕ = vs.1.1.0 in
+        let len : length zs ≡ N = len₀ ∙ sym zeros-length in
+        move ! (2 ∷ []) $ split ! $ move ! (1 ∷ []) $ peeks ! D.the_row (Is D.the_row) (shows 𝓛 D.the_row) r (w ∷ []) (λ is.
+        let told = LL.tells D.the_type D'.the_laws r _ is in
+        let r-is = subst (Is D.the_row r) told is in
+        let fits : r.count < 2 ^ 64 = (LL.owed D.the_type D'.the_laws r _ is).1.0.1 in
+        land ! (from ! (stop !)) (init ! 23 refl ((LL.lawful D.the_type D'.the_laws 𝓛).typed r _ is).0) $ rewrite ! 23 (λ (u : Val). ‵ (fat full_share D'.mir l₅ 0 u)) (ap only told) refl $ drop ! $
+        -- the lifetime is ended, and the array comes back
+        split ! $ move ! (1 ∷ []) $ split ! $ lft_end ! tt $ move ! (0 ∷ 5 ∷ 3 ∷ []) $ use3 𝓛 (later (‵ ((Arr (mem u64) (length zeros)).own_at zs l₄ 0))) (slice_back 𝓛 u64 (ν ∷ []) δ zs (length zeros) l₄ 0) $ await ! tt $ fsplit ! $ drop ! $ use1 𝓛 (‵ (row u64 full_share zs l₄ 0)) (whole_out 𝓛 u64 zs l₄ 0) $
+        -- [the array's row; true; the input's token; true; rows; their token; _13; …; _5; …; _4's end; _3; …; room for _0; …]
+        forget ! 16 refl $ forget ! 18 refl $ forget ! 20 refl $ forget ! 27 refl $ forget ! 29 refl $ keep ! (0 ∷ 2 ∷ 4 ∷ 5 ∷ 6 ∷ 7 ∷ 8 ∷ 9 ∷ 10 ∷ 11 ∷ 12 ∷ 13 ∷ 14 ∷ 15 ∷ 16 ∷ 17 ∷ 18 ∷ 19 ∷ 20 ∷ 21 ∷ 22 ∷ 23 ∷ 24 ∷ 25 ∷ 26 ∷ 27 ∷ 28 ∷ 29 ∷ 30 ∷ 31 ∷ 32 ∷ []) $
+        fills 𝓛 at_mem run κ κ' q q' rw r-room Post C Λ fm known-fill _ _ _ _ _ _ _ _ l₀ l₁ l₂ l₃ l₄ l₅ l₆ l₇ l₈ l₉ l₁₀ l₁₁ l₁₂ l₁₃ zs r.count _ _ len fits ((LL.lawful D.the_type D'.the_laws 𝓛).typed r _ r-is).0
+        (λ us e' l. exits r us (read sr.now c ys us r zs e e') l _ r-is)))))))))))))))))))))))

@@ -1,0 +1,17 @@
+-- What the loops of `emit::put_few` keep.
+use Prim.Native.Nat.{◌+◌, ◌-◌, ◌≤◌}
+use mathlib.Core.Path.{◌≡◌, refl, ap, ◌∙◌}
+use native.Mathlib.Omega.{arith}
+use borrow.Author.Rules.{rules}
+use lib.ListN.{length, take, length-set}
+use lib.Seq.{take_all}
+use Rattle.emit.specs.Put.{stored}
+use Rattle.emit.proofs.Storing.{stored-none, stored-step}
+use Rattle.emit.proofs.put_few.Given as goal
+
+abbrev pub invariant-loop-i : goal.invariant-loop-i
+invariant-loop-i l =
+    (l.i ≤ length l.word) × (l.o ≡ l.at + l.i) × (l.out ≡ stored l.initial.out l.at (take l.i l.word)) × (length l.out ≡ length l.initial.out)
+
+abbrev pub decreases-loop-i : goal.decreases-loop-i
+decreases-loop-i l = length l.word - l.i

@@ -1,0 +1,16 @@
+-- Goals of `emit_var::put_id` that the search leaves.
+use native.Mathlib.Omega.{arith}
+use borrow.Author.Rules.{rules}
+use Rattle.emit_var.proofs.Putting.{part_count, part-full}
+use Rattle.emit_var.proofs.put_id.Goals as goal
+
+pub returns-in-Count : goal.returns-in-Count
+returns-in-Count c =
+    part_count _ c.args.out.now c.args.at c.requires c.put.ensures _ c.in-Count.is
+
+pub overflow_add-result : goal.overflow_add-result
+overflow_add-result c = record { fits = omega (arith, (returns c).0) }
+
+pub returns-in-NoRoom : goal.returns-in-NoRoom
+returns-in-NoRoom c =
+    absurd (part-full _ c.args.out.now c.args.at c.requires c.put.ensures c.in-NoRoom.is)

@@ -1,0 +1,10 @@
+-- Goals of `fast_var::four` that the search leaves.
+use Rattle.std.proofs.Common.{sym, ◌∙◌, rules, eqb-true}
+use Rattle.fast_var.proofs.Places.{quad-same}
+use Rattle.fast_var.proofs.four.Goals as goal
+
+pub returns : goal.returns
+returns c =
+    λ e.
+    quad-same c.args.input.now _ (λ i. (c.shared_slice_known-1.given i).fits) _ _ _ _ c.ranges.a.fits c.ranges.b.fits c.ranges.c.fits
+    (sym c.quad.ensures ∙ eqb-true _ _ e ∙ c.quad.ensures)

@@ -1,0 +1,32 @@
+-- Goals of `fast_var::parse_var` that the search leaves.
+use Rattle.std.proofs.Common.{arith, rules}
+use borrow.Author.Tests.{not-false}
+use Rattle.fast_var.specs.FastVar.{Begins, HitsType}
+use Rattle.fast_var.specs.declared.FastType.TheVariants.{Hit}
+use Rattle.fast_var.proofs.Definitions.{hits}
+use Rattle.fast_var.proofs.parse_var.Goals as goal
+use Rattle.fast_var.proofs.parse_var.Goals.{Else-not-begins, In-Hit}
+
+begun : (c : Else-not-begins) → Begins c.args.input.now c.spaces_end-first.result
+begun c = c.begins.ensures (not-false _ c.if-not-begins.false-raw)
+
+typed : (c : In-Hit)
+    → HitsType c.args.input.now
+    c.spaces_end.result (Hit c.in-Hit.k c.in-Hit.end)
+typed c = rw c.in-Hit.is at c.type_at.ensures
+
+pub spaces_end-requires : goal.spaces_end-requires
+spaces_end-requires c = omega (arith, (begun (goal.at.spaces_end-requires c).Else-not-begins).1.0.inside)
+
+pub overflow_add-end : goal.overflow_add-end
+overflow_add-end c =
+    record { fits = omega (arith, (typed (goal.at.overflow_add-end c).In-Hit).0.inside, c.requires.input_len_bound) }
+
+pub sized-requires : goal.sized-requires
+sized-requires c =
+    (omega (arith, (typed (goal.at.sized-requires c).In-Hit).0.inside), c.requires.input_len_bound)
+
+pub returns-in-Hit : goal.returns-in-Hit
+returns-in-Hit c =
+    hits c.spaces_end.ensures (begun (goal.at.returns-in-Hit c).Else-not-begins)
+    c.spaces_end.ensures _ (typed (goal.at.returns-in-Hit c).In-Hit) c.sized.result c.sized.ensures

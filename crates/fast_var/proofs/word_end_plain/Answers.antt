@@ -1,0 +1,34 @@
+-- Goals of `fast_var::word_end_plain` that the search leaves.
+use Rattle.std.proofs.Common.{ℕ, ◌-◌, List, [], length, arith, rules, ltb-false}
+use Rattle.fast_var.proofs.Places.{Stands, stands-none, stands-more, stands-two, worded}
+use Rattle.fast_var.proofs.word_end_plain.Goals as goal
+
+pub returns-then-input-at : goal.returns-then-input-at
+returns-then-input-at c = λ h. absurd (omega arith)
+
+pub loop-i-init : goal.loop-i-init
+loop-i-init c = ([], stands-none _ _)
+
+pub returns-then-a-eq32 : goal.returns-then-a-eq32
+returns-then-a-eq32 c = λ h. (worded _ _ _ _ c.loop-i.invariant.1 (omega arith) h c.if-a-eq32.true).0
+
+pub returns-else-a-eq32 : goal.returns-else-a-eq32
+returns-else-a-eq32 c = λ h. absurd (omega arith)
+
+pub returns-then-b-eq32 : goal.returns-then-b-eq32
+returns-then-b-eq32 c =
+    λ h.
+    let k = c.loop-i.invariant.1 in
+    let one = stands-more _ _ _ _ k (omega arith) c.if-a-lt33.false (ltb-false _ _ c.if-a-gt126.false-raw) in
+    (worded _ _ _ _ one (omega arith) h c.if-b-eq32.true).0
+
+pub returns-else-b-eq32 : goal.returns-else-b-eq32
+returns-else-b-eq32 c = λ h. absurd (omega arith)
+
+pub loop-i-preserved : goal.loop-i-preserved
+loop-i-preserved c =
+    stands-two _ _ _ _ c.loop-i.invariant.1 (omega arith) c.if-a-lt33.false
+    (ltb-false _ _ c.if-a-gt126.false-raw) c.if-b-lt33.false (ltb-false _ _ c.if-b-gt126.false-raw)
+
+pub returns : goal.returns
+returns c = λ h. absurd (omega arith)

@@ -1,2 +1,0 @@
-pub mod Float
-pub mod Near

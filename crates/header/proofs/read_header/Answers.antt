@@ -1,0 +1,131 @@
+-- Goals of `header::read_header` that the search leaves.
+use Prim.Native.Nat.{◌-◌, ◌*◌, ◌≤◌}
+use mathlib.Core.Path.{◌≡◌, refl, ◌∙◌}
+use mathlib.Core.List.{[]}
+use native.Mathlib.Omega.{arith}
+use lib.ListN.{length}
+use Rattle.parser.proofs.All.{less-left}
+use Rattle.header.specs.Header.{header_of}
+use Rattle.header.specs.Level.{after, rest}
+use Rattle.header.proofs.Levels.{keep-here}
+use Rattle.header.proofs.Table.{settled}
+use borrow.Author.Rules.{rules}
+use Rattle.header.proofs.read_header.Goals as goal
+
+pub loop-d-init : goal.loop-d-init
+loop-d-init c = (omega (arith, c.capacity-cap.ensures), omega (arith, c.capacity-cap.ensures), omega arith, refl, rw (c.capacity-cap.ensures, c.nothing-header.ensures))
+
+pub take_item-requires : goal.take_item-requires
+take_item-requires c = let i = c.loop-d.invariant in (i.0, omega (arith, i.1, i.3), omega arith)
+
+pub overflow_add-n : goal.overflow_add-n
+overflow_add-n c =
+    let g = rw c.in-Leaf.is at c.take_item.ensures in
+    omega (arith, g.0, c.loop-d.invariant.0)
+
+pub loop-d-smaller-in-Leaf : goal.loop-d-smaller-in-Leaf
+loop-d-smaller-in-Leaf c =
+    let g = rw c.in-Leaf.is at c.take_item.ensures in
+    g.1
+
+pub loop-d-preserved-in-Leaf : goal.loop-d-preserved-in-Leaf
+loop-d-preserved-in-Leaf c =
+    let i = c.loop-d.invariant in
+    let g = rw c.in-Leaf.is at c.take_item.ensures in
+    (i.0, i.1, omega (arith, g.0), c.take_item.auto.1.1.0 ∙ i.3, i.4 ∙ g.2 [] c.loop-d.header (refl, refl))
+
+pub overflow_add-n-in-Scope : goal.overflow_add-n-in-Scope
+overflow_add-n-in-Scope c =
+    let g = rw c.in-Scope.is at c.take_item.ensures in
+    omega (arith, g.1.0, c.loop-d.invariant.0)
+
+pub overflow_sub-parse_scope : goal.overflow_sub-parse_scope
+overflow_sub-parse_scope c = omega arith
+
+pub parse_scope-requires : goal.parse_scope-requires
+parse_scope-requires c =
+    let i = c.loop-d.invariant in
+    let g = rw c.in-Scope.is at c.take_item.ensures in
+    let same = c.take_item.auto.1.1.0 ∙ i.3 in
+    (omega (arith, g.1.0), i.0, omega (arith, same, i.1), omega arith)
+
+pub loop-d-smaller-in-Closed : goal.loop-d-smaller-in-Closed
+loop-d-smaller-in-Closed c =
+    let g = rw c.in-Scope.is at c.take_item.ensures in
+    let f = rw c.in-Closed.is at c.parse_scope.ensures in
+    omega (arith, g.1.1, f.1)
+
+pub loop-d-preserved-in-Closed : goal.loop-d-preserved-in-Closed
+loop-d-preserved-in-Closed c =
+    let l = c.loop-d in
+    let i = l.invariant in
+    let g = rw c.in-Scope.is at c.take_item.ensures in
+    let f = rw c.in-Closed.is at c.parse_scope.ensures in (
+      i.0,
+      i.1,
+      f.0,
+      c.parse_scope.auto.1.1.0 ∙ c.take_item.auto.1.1.0 ∙ i.3,
+      i.4 ∙ g.1.2 [] l.header (refl, refl) ∙ f.2 [] l.header refl,
+    )
+
+pub shape_of-rows-in-Refused-parse_scope : goal.shape_of-rows-in-Refused-parse_scope
+shape_of-rows-in-Refused-parse_scope c = c.parse_scope.auto.1.1.0 ∙ c.take_item.auto.1.1.0 ∙ c.loop-d.invariant.3
+
+pub returns-in-Refused-parse_scope : goal.returns-in-Refused-parse_scope
+returns-in-Refused-parse_scope c =
+    let l = c.loop-d in
+    let a = c.args in
+    let i = l.invariant in
+    let g = rw c.in-Scope.is at c.take_item.ensures in
+    let f = rw c.in-Refused-parse_scope.is at c.parse_scope.ensures in
+    record {
+      answer = (rw c.answer.ensures
+          (settled a.rows.now (header_of a.input.now a.c a.rows.now) l.header _ _ _ _
+          (i.4 ∙ g.1.2 [] l.header (refl, refl) ∙ f.1 [] l.header refl) (omega (arith, f.0, i.1)))).0;
+      table = (rw c.answer.ensures
+          (settled a.rows.now (header_of a.input.now a.c a.rows.now) l.header _ _ _ _
+          (i.4 ∙ g.1.2 [] l.header (refl, refl) ∙ f.1 [] l.header refl) (omega (arith, f.0, i.1)))).1;
+    }
+
+pub loop-d-smaller : goal.loop-d-smaller
+loop-d-smaller c =
+    let g = rw c.in-Other.is at c.take_item.ensures in
+    less-left _ _ _ _ g.1
+
+pub loop-d-preserved : goal.loop-d-preserved
+loop-d-preserved c =
+    let l = c.loop-d in
+    let a = c.args in
+    let i = l.invariant in
+    let g = rw c.in-Other.is at c.take_item.ensures in
+    let v = c.k-1.given.0 in
+    let kept = rw c.in-On.is at (keep-here a.input.now c.capacity-cap.result l.cur v.1.0 l.rows l.n l.header v.0 g.1 g.2 c.keep.result c.keep.ensures) in
+    (i.0, i.1, i.2, c.take_item.auto.1.1.0 ∙ i.3, rw g.0 (i.4 ∙ kept))
+
+pub returns-in-Ends : goal.returns-in-Ends
+returns-in-Ends c =
+    let l = c.loop-d in
+    let a = c.args in
+    let i = l.invariant in
+    let g = rw c.in-Other.is at c.take_item.ensures in
+    let v = c.k-1.given.0 in
+    let kept = rw c.in-Ends.is at (keep-here a.input.now c.capacity-cap.result l.cur v.1.0 l.rows l.n l.header v.0 g.1 g.2 c.keep.result c.keep.ensures) in
+    record {
+      answer = (rw (c.answer-in-Ends.ensures, g.0)
+          (settled a.rows.now (header_of a.input.now a.c a.rows.now) l.header _ _ _ _ (i.4 ∙ kept) (omega (arith, i.2, i.1)))).0;
+      table = (rw (c.answer-in-Ends.ensures, g.0)
+          (settled a.rows.now (header_of a.input.now a.c a.rows.now) l.header _ _ _ _ (i.4 ∙ kept) (omega (arith, i.2, i.1)))).1;
+    }
+
+pub returns-in-Refused : goal.returns-in-Refused
+returns-in-Refused c =
+    let l = c.loop-d in
+    let a = c.args in
+    let i = l.invariant in
+    let g = rw c.in-Refused.is at c.take_item.ensures in
+    record {
+      answer = (rw c.answer-in-Refused.ensures
+          (settled a.rows.now (header_of a.input.now a.c a.rows.now) l.header _ _ _ _ (i.4 ∙ g [] l.header (refl, refl)) (omega (arith, i.2, i.1)))).0;
+      table = (rw c.answer-in-Refused.ensures
+          (settled a.rows.now (header_of a.input.now a.c a.rows.now) l.header _ _ _ _ (i.4 ∙ g [] l.header (refl, refl)) (omega (arith, i.2, i.1)))).1;
+    }

@@ -1,0 +1,75 @@
+-- Goals of `header::take_vars` that the search leaves.
+use Prim.Native.Nat.{◌-◌}
+use mathlib.Core.Path.{◌≡◌, refl, sym, ◌∙◌}
+use native.Mathlib.Omega.{arith}
+use borrow.Author.Tests.{not-false}
+use lib.ListN.{length}
+use Rattle.fast.specs.Fast.{Reads}
+use Rattle.parser_part.specs.Plan.{var_def}
+use Rattle.parser.proofs.Ahead.{good-valid, command-past}
+use Rattle.token.specs.Read.{Valid}
+use Rattle.header.specs.Level.{Passes}
+use Rattle.header.proofs.Levels.{passes_none, passes-more}
+use borrow.Author.Rules.{rules}
+use Rattle.header.proofs.take_vars.Goals as goal
+use Rattle.header.proofs.take_vars.Goals.{In-Hit}
+
+-- what the quick parse_var told
+told : (c : In-Hit) →
+    let v = c.v-1.given.0 in
+    Reads c.args.input.now c.loop-n.cur.place v.1.0 (var_def v.0 v.0.index)
+told c = rw c.in-Hit.is at c.parse_var.ensures
+
+pub returns-then-not-placed : goal.returns-then-not-placed
+returns-then-not-placed c = rw c.so_far.ensures (passes_none _ _ _ _ _ _ c.requires.0)
+
+pub loop-n-init : goal.loop-n-init
+loop-n-init c =
+    (good-valid _ _ (sym c.placed.ensures ∙ not-false _ c.if-not-placed.false-raw), refl, passes_none _ _ _ _ _ _ c.requires.0)
+
+pub parse_var-requires : goal.parse_var-requires
+parse_var-requires c = let v = c.loop-n.invariant.0 in record { at_in_bounds = v.within; input_len_bound = v.short }
+
+pub put_var-requires : goal.put_var-requires
+put_var-requires c =
+    let a = c.requires in
+    let l = c.loop-n-test.true in
+    (omega (arith, a.1, l), omega (arith, a.2, l, c.loop-n.invariant.1))
+
+pub bounds-input-end : goal.bounds-input-end
+bounds-input-end c = (told (goal.at.bounds-input-end c).In-Hit).inside
+
+pub word_read-cur-requires : goal.word_read-cur-requires
+word_read-cur-requires c =
+    let v = c.loop-n.invariant.0 in
+    let i = (told (goal.at.word_read-cur-requires c).In-Hit).inside in
+    record { end_lt_limit = omega (arith, i, v.short); line_bound = omega (arith, v.counted, v.within, v.short) }
+
+pub overflow_add-n : goal.overflow_add-n
+overflow_add-n c = omega (arith, c.requires.1, c.loop-n-test.true)
+
+pub loop-n-smaller : goal.loop-n-smaller
+loop-n-smaller c = omega (arith, c.loop-n-test.true)
+
+pub loop-n-preserved : goal.loop-n-preserved
+loop-n-preserved c =
+    let i = c.loop-n.invariant in
+    let l = c.loop-n-test.true in
+    let q = (told (goal.at.loop-n-preserved c).In-Hit).reads _ i.0 refl in
+    rw c.word_read-cur.ensures (
+      (command-past _ _ _ _ q).0.valid,
+      c.put_var.auto.0 ∙ i.1,
+      rw c.put_var.ensures (passes-more _ _ _ _ _ _ _ _ _ _ _ i.2 q l),
+    )
+
+pub shape_of-rows-in-Miss : goal.shape_of-rows-in-Miss
+shape_of-rows-in-Miss c = c.loop-n.invariant.1
+
+pub returns-in-Miss : goal.returns-in-Miss
+returns-in-Miss c = rw c.so_far-in-Miss.ensures c.loop-n.invariant.2
+
+pub shape_of-rows : goal.shape_of-rows
+shape_of-rows c = c.loop-n.invariant.1
+
+pub returns : goal.returns
+returns c = rw c.so_far-2.ensures c.loop-n.invariant.2

@@ -1,0 +1,22 @@
+-- Goals of `idcode::IdCode::len` that the search leaves.
+use Prim.Native.Nat.{◌+◌}
+use mathlib.Core.Path.{◌≡◌}
+use native.Mathlib.Omega.{arith}
+use borrow.Author.Rules.{rules}
+use lib.ListN.{length}
+use Rattle.idcode.specs.Id.{id_text}
+use Rattle.idcode.proofs.Laws.{text-length}
+use Rattle.idcode.proofs.Spelling.{length-one, length_more}
+use Rattle.idcode.proofs.IdCode.len.Goals as goal
+
+pub loop-rest-init : goal.loop-rest-init
+loop-rest-init c = omega arith
+
+pub overflow_add-n : goal.overflow_add-n
+overflow_add-n c = omega (arith, text-length c.args.self.0 (omega arith))
+
+pub loop-rest-preserved : goal.loop-rest-preserved
+loop-rest-preserved c = omega (arith, length_more _ c.loop-rest-test.true)
+
+pub returns : goal.returns
+returns c = omega (arith, length-one _ c.loop-rest-test.false)

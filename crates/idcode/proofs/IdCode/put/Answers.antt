@@ -1,0 +1,41 @@
+-- Goals of `idcode::IdCode::put` that the search leaves.
+use Prim.Native.Nat.{◌≤◌}
+use mathlib.Core.Logic.{⊎_elim}
+use native.Mathlib.Omega.{arith}
+use borrow.Author.Rules.{rules}
+use borrow.Author.Tests.{ltb-true, ltb-false}
+use lib.ListN.{length, length-set}
+use Rattle.text.proofs.Rows.{Copied, copy_start, copy-length, no_room}
+use Rattle.idcode.specs.Id.{id_text}
+use Rattle.idcode.proofs.Laws.{text-length}
+use Rattle.idcode.proofs.Spelling.{Spelling, spell-start, inside, spell-more, copy-next, copied}
+use Rattle.idcode.proofs.IdCode.put.Goals as goal
+
+pub returns-then-out-len : goal.returns-then-out-len
+returns-then-out-len c = no_room (id_text c.args.self.0) _ (omega (arith, ltb-true, c.len.ensures))
+
+pub loop-rest-init : goal.loop-rest-init
+loop-rest-init c =
+    let x = c.args in
+    let short = text-length x.self.0 (omega arith) in
+    let room : length (id_text x.self.0) ≤ length x.out.now =
+    ⊎_elim (λ w. omega (arith, ltb-false, w.2.left, w.1.ensures)) (λ w. omega (arith, w.left)) c.else-out-lt10.branch in
+    (spell-start x.self.0 (omega arith), copy_start _ _ room)
+
+pub bounds-out-n : goal.bounds-out-n
+bounds-out-n c = let i = c.loop-rest.invariant in omega (arith, inside _ _ _ i.0, copy-length _ _ _ _ i.1)
+
+pub overflow_add-n : goal.overflow_add-n
+overflow_add-n c = omega (arith, inside _ _ _ c.loop-rest.invariant.0)
+
+pub shape_of-out-then-more-eq0 : goal.shape_of-out-then-more-eq0
+shape_of-out-then-more-eq0 c = simp length-set (copy-length _ _ _ _ c.loop-rest.invariant.1)
+
+pub returns-then-more-eq0 : goal.returns-then-more-eq0
+returns-then-more-eq0 c = let i = c.loop-rest.invariant in copied _ _ _ i.0 i.1 (omega arith)
+
+pub loop-rest-preserved : goal.loop-rest-preserved
+loop-rest-preserved c = let i = c.loop-rest.invariant in (spell-more _ _ _ i.0 (omega arith), copy-next _ _ _ i.0 i.1)
+
+pub overflow_mul-out : goal.overflow_mul-out
+overflow_mul-out c = record { fits = omega (arith, c.loop-rest.invariant.0.small) }

@@ -1,0 +1,13 @@
+-- What the loops of `idcode::IdCode::spell` keep.
+use native.Mathlib.Omega.{arith}
+use borrow.Author.Rules.{rules}
+use Rattle.text.proofs.Rows.{Row, row-start}
+use Rattle.idcode.specs.Id.{id_text}
+use Rattle.idcode.proofs.Spelling.{Spelling, spell-start, inside, spell-more, row_next, row_done}
+use Rattle.idcode.proofs.IdCode.spell.Given as goal
+
+abbrev pub invariant-loop-rest : goal.invariant-loop-rest
+invariant-loop-rest l = Spelling l.initial.rest l.rest l.n × Row (id_text l.initial.rest) l.bytes l.n
+
+abbrev pub decreases-loop-rest : goal.decreases-loop-rest
+decreases-loop-rest l = l.rest

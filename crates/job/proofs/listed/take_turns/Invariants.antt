@@ -1,0 +1,15 @@
+-- What the loops of `job::listed::take_turns` keep.
+use mathlib.Core.Path.{◌≡◌}
+use lib.ListN.{length}
+use borrow.Author.Tests.{not-true}
+use borrow.Author.Rules.{rules}
+use Rattle.list_job.specs.Turns.{Tables, left}
+use Rattle.list_job.proofs.Turning.{turn_on}
+use Rattle.job.proofs.listed.take_turns.Given as goal
+
+abbrev pub invariant-loop-rows : goal.invariant-loop-rows
+invariant-loop-rows l =
+    Tables l.rows l.changes l.state × (length l.rows ≡ length l.initial.rows) × (length l.changes ≡ length l.initial.changes) × (length l.out ≡ length l.initial.out)
+
+abbrev pub decreases-loop-rows : goal.decreases-loop-rows
+decreases-loop-rows l = left l.state

@@ -1,0 +1,12 @@
+-- Goals of `job::rewriting::take_turns` that the search leaves.
+use mathlib.Core.Path.{◌≡◌}
+use lib.ListN.{length}
+use borrow.Author.Tests.{not-true}
+use borrow.Author.Rules.{rules}
+use Rattle.reformat_job.proofs.Turning.{left, turn_on}
+use Rattle.job.proofs.rewriting.take_turns.Goals as goal
+
+pub loop-rows-smaller : goal.loop-rows-smaller
+loop-rows-smaller c =
+    let l = c.loop-rows in
+    turn_on c.args.input.now l.rows l.out l.state c.is_finished.ensures (not-true _ c.loop-rows-test.true-raw) c.take_turn-t.ensures

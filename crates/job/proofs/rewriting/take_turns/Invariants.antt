@@ -1,0 +1,13 @@
+-- What the loops of `job::rewriting::take_turns` keep.
+use mathlib.Core.Path.{◌≡◌}
+use lib.ListN.{length}
+use borrow.Author.Tests.{not-true}
+use borrow.Author.Rules.{rules}
+use Rattle.reformat_job.proofs.Turning.{left, turn_on}
+use Rattle.job.proofs.rewriting.take_turns.Given as goal
+
+abbrev pub invariant-loop-rows : goal.invariant-loop-rows
+invariant-loop-rows l = (length l.rows ≡ length l.initial.rows) × (length l.out ≡ length l.initial.out)
+
+abbrev pub decreases-loop-rows : goal.decreases-loop-rows
+decreases-loop-rows l = left l.input l.state

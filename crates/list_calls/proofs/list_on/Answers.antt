@@ -1,0 +1,72 @@
+-- Goals of `list_calls::list_on` that the search leaves.
+use mathlib.Core.Path.{refl, sym, ◌∙◌}
+use Rattle.list_calls.specs.Listings.{list_on_call}
+use Rattle.vcd_state.proofs.Taken.{cursor-four}
+use Rattle.change.proofs.Table.{since-two}
+use borrow.Author.Rules.{rules}
+use Rattle.list_calls.proofs.list_on.Goals as goal
+
+pub put_cursor-requires : goal.put_cursor-requires
+put_cursor-requires c = cursor-four _ c.cursor_of.ensures c.in-Is.is
+
+pub put_since-requires : goal.put_since-requires
+put_since-requires c = since-two _ c.since_in.ensures c.in-Is-since_in.is
+
+pub returns-in-Bad : goal.returns-in-Bad
+unfolding list_on_call
+returns-in-Bad c = record { status = (rw (sym c.cursor_of.ensures ∙ c.in-Bad.is) (refl, (refl, (refl, (refl, refl))))).0; cursor = (rw (sym c.cursor_of.ensures ∙ c.in-Bad.is) (refl, (refl, (refl, (refl, refl))))).1.0; since = (rw (sym c.cursor_of.ensures ∙ c.in-Bad.is) (refl, (refl, (refl, (refl, refl))))).1.1.0; rows = (rw (sym c.cursor_of.ensures ∙ c.in-Bad.is) (refl, (refl, (refl, (refl, refl))))).1.1.1.0; count = (rw (sym c.cursor_of.ensures ∙ c.in-Bad.is) (refl, (refl, (refl, (refl, refl))))).1.1.1.1 }
+
+pub returns-in-Bad-since_in : goal.returns-in-Bad-since_in
+unfolding list_on_call
+returns-in-Bad-since_in c = record { status = (rw (sym c.cursor_of.ensures ∙ c.in-Is.is, sym c.since_in.ensures ∙ c.in-Bad-since_in.is) (refl, (refl, (refl, (refl, refl))))).0; cursor = (rw (sym c.cursor_of.ensures ∙ c.in-Is.is, sym c.since_in.ensures ∙ c.in-Bad-since_in.is) (refl, (refl, (refl, (refl, refl))))).1.0; since = (rw (sym c.cursor_of.ensures ∙ c.in-Is.is, sym c.since_in.ensures ∙ c.in-Bad-since_in.is) (refl, (refl, (refl, (refl, refl))))).1.1.0; rows = (rw (sym c.cursor_of.ensures ∙ c.in-Is.is, sym c.since_in.ensures ∙ c.in-Bad-since_in.is) (refl, (refl, (refl, (refl, refl))))).1.1.1.0; count = (rw (sym c.cursor_of.ensures ∙ c.in-Is.is, sym c.since_in.ensures ∙ c.in-Bad-since_in.is) (refl, (refl, (refl, (refl, refl))))).1.1.1.1 }
+
+pub returns-in-Is-since_in : goal.returns-in-Is-since_in
+unfolding list_on_call
+returns-in-Is-since_in c =
+    record {
+      status = (rw (
+        sym c.cursor_of.ensures ∙ c.in-Is.is,
+        sym c.since_in.ensures ∙ c.in-Is-since_in.is,
+        c.status.ensures,
+        c.put_cursor.ensures,
+        c.put_since.ensures,
+        c.list_on-a.ensures.answer,
+      )
+          (refl, (refl, (refl, (c.list_on-a.ensures.table, refl))))).0;
+      cursor = (rw (
+        sym c.cursor_of.ensures ∙ c.in-Is.is,
+        sym c.since_in.ensures ∙ c.in-Is-since_in.is,
+        c.status.ensures,
+        c.put_cursor.ensures,
+        c.put_since.ensures,
+        c.list_on-a.ensures.answer,
+      )
+          (refl, (refl, (refl, (c.list_on-a.ensures.table, refl))))).1.0;
+      since = (rw (
+        sym c.cursor_of.ensures ∙ c.in-Is.is,
+        sym c.since_in.ensures ∙ c.in-Is-since_in.is,
+        c.status.ensures,
+        c.put_cursor.ensures,
+        c.put_since.ensures,
+        c.list_on-a.ensures.answer,
+      )
+          (refl, (refl, (refl, (c.list_on-a.ensures.table, refl))))).1.1.0;
+      rows = (rw (
+        sym c.cursor_of.ensures ∙ c.in-Is.is,
+        sym c.since_in.ensures ∙ c.in-Is-since_in.is,
+        c.status.ensures,
+        c.put_cursor.ensures,
+        c.put_since.ensures,
+        c.list_on-a.ensures.answer,
+      )
+          (refl, (refl, (refl, (c.list_on-a.ensures.table, refl))))).1.1.1.0;
+      count = (rw (
+        sym c.cursor_of.ensures ∙ c.in-Is.is,
+        sym c.since_in.ensures ∙ c.in-Is-since_in.is,
+        c.status.ensures,
+        c.put_cursor.ensures,
+        c.put_since.ensures,
+        c.list_on-a.ensures.answer,
+      )
+          (refl, (refl, (refl, (c.list_on-a.ensures.table, refl))))).1.1.1.1;
+    }

@@ -1,0 +1,22 @@
+-- Goals of `list_job::turn_begin` that the search leaves.
+use Rattle.list_job.proofs.Putting.{begin-long, begin-whole, begin-refused}
+use borrow.Author.Rules.{rules}
+use Rattle.list_job.proofs.turn_begin.Goals as goal
+
+pub returns-then-input-gt-TAKEN : goal.returns-then-input-gt-TAKEN
+returns-then-input-gt-TAKEN c =
+    let x = c.args in
+    begin-long x.input.now x.rows.now x.out.now c.if-input-gt-TAKEN.true c.put_long.ensures c.last.ensures
+
+pub returns-in-Whole : goal.returns-in-Whole
+returns-in-Whole c =
+    let x = c.args in
+    let h = c.read_header-h in
+    begin-whole x.input.now x.rows.now x.out.now c.if-input-gt-TAKEN.false c.start.ensures h.ensures.0 h.ensures.1 c.in-Whole.is
+
+pub returns-in-Refused : goal.returns-in-Refused
+returns-in-Refused c =
+    let x = c.args in
+    let h = c.read_header-h in
+    begin-refused x.input.now x.rows.now x.out.now c.if-input-gt-TAKEN.false c.start.ensures h.ensures.0 h.ensures.1
+    c.in-Refused.is c.put_met.ensures c.last-in-Refused.ensures

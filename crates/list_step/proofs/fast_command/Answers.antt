@@ -1,0 +1,29 @@
+-- Goals of `list_step::fast_command` that the search leaves.
+use native.Mathlib.Omega.{arith}
+use Rattle.text.proofs.Lists.{take_rest}
+use Rattle.fast.proofs.Hits.{letter-value, digit_value, hash-kind, vector-kind}
+use borrow.Author.Rules.{rules}
+use Rattle.list_step.proofs.fast_command.Goals as goal
+
+pub parse_scalar-requires : goal.parse_scalar-requires
+parse_scalar-requires c = record { at_in_bounds = omega (arith, c.if-input-at.false); input_len_bound = c.requires.input_len_bound; at_value = digit_value _ c.if-b-eq24.true }
+
+pub parse_timestamp-requires : goal.parse_timestamp-requires
+parse_timestamp-requires c = record { at_in_bounds = omega (arith, c.if-input-at.false); input_len_bound = c.requires.input_len_bound; at_value = hash-kind _ c.in-35.is }
+
+pub parse_scalar-requires-in-120 : goal.parse_scalar-requires-in-120
+parse_scalar-requires-in-120 c = record { at_in_bounds = omega (arith, c.if-input-at.false); input_len_bound = c.requires.input_len_bound; at_value = letter-value _ c.in-120.is }
+
+pub parse_vector-requires : goal.parse_vector-requires
+parse_vector-requires c =
+    record {
+      at_in_bounds = (rw (take_rest c.args.input.now 0)
+          (omega (arith, c.if-input-at.false), (c.requires.input_len_bound, vector-kind _ c.in-98.is))).0;
+      input_len_bound = (rw (take_rest c.args.input.now 0)
+          (omega (arith, c.if-input-at.false), (c.requires.input_len_bound, vector-kind _ c.in-98.is))).1.0;
+      at_value = (rw (take_rest c.args.input.now 0)
+          (omega (arith, c.if-input-at.false), (c.requires.input_len_bound, vector-kind _ c.in-98.is))).1.1;
+    }
+
+pub returns-in-98 : goal.returns-in-98
+returns-in-98 c = rw (take_rest c.args.input.now 0) at c.parse_vector.ensures

@@ -1,0 +1,18 @@
+-- Goals of `number::decimal` that the search leaves.
+use native.Mathlib.Omega.{arith}
+use borrow.Author.Rules.{rules}
+use Rattle.number.proofs.Writing.{short}
+use Rattle.number.proofs.Filling.{Filled, fill_start, fill_more, fill-spelled}
+use Rattle.number.proofs.decimal.Goals as goal
+
+pub loop-i-init : goal.loop-i-init
+loop-i-init c = fill_start _ _ _ c.digits-len.ensures (omega (arith, short 19 c.args.n (omega arith)))
+
+pub bounds-bytes-i : goal.bounds-bytes-i
+bounds-bytes-i c = omega (arith, short 19 c.args.n (omega arith))
+
+pub loop-i-preserved : goal.loop-i-preserved
+loop-i-preserved c = fill_more _ _ _ _ _ c.loop-i.invariant c.loop-i-test.true
+
+pub returns : goal.returns
+returns c = fill-spelled _ _ _ _ _ c.digits-len.ensures c.loop-i-test.false c.loop-i.invariant

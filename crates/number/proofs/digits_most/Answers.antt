@@ -1,0 +1,46 @@
+-- Goals of `number::digits_most` that the search leaves.
+use native.Mathlib.Omega.{arith}
+use borrow.Author.Rules.{rules}
+use borrow.Author.Tests.{ltb-true, ltb-false}
+use mathlib.Core.Logic.{⊎_elim}
+use Prim.Native.Nat.{◌-◌}
+use lib.ListN.{length}
+use Rattle.number.proofs.Laws.{low_byte, high_byte}
+use Rattle.number.proofs.Reading.{ReadTo, read_none, read-start, read-bad, read-large, read_more, read_done}
+use Rattle.number.proofs.digits_most.Goals as goal
+
+pub returns-then-s-eq0 : goal.returns-then-s-eq0
+returns-then-s-eq0 c = read_none _ _ c.if-s-eq0.true
+
+pub loop-i-init : goal.loop-i-init
+loop-i-init c = read-start _ _ c.if-s-eq0.false
+
+pub returns-then-b-lt48 : goal.returns-then-b-lt48
+returns-then-b-lt48 c =
+    read-bad _ _ _ _ c.loop-i.invariant c.loop-i-test.true
+    (⊎_elim (λ w. low_byte _ w.taken) (λ w. high_byte _ (ltb-true _ _ w.1.taken)) c.then-b-lt48.branch)
+
+pub overflow_cast-d : goal.overflow_cast-d
+overflow_cast-d c = omega (arith, ltb-false)
+
+pub returns-then-most-d : goal.returns-then-most-d
+returns-then-most-d c =
+    let r = c.loop-i.invariant in
+    read-large _ _ _ _ r c.loop-i-test.true
+    c.if-b-lt48.false (ltb-false _ _ c.if-b-gt57.false-raw)
+    (⊎_elim (λ w. omega arith) (λ w. omega (arith, ltb-true)) c.then-most-d.branch)
+
+pub overflow_mul-v : goal.overflow_mul-v
+overflow_mul-v c = omega (arith, ltb-false)
+
+pub overflow_add-v : goal.overflow_add-v
+overflow_add-v c = omega (arith, ltb-false)
+
+pub loop-i-preserved : goal.loop-i-preserved
+loop-i-preserved c =
+    let r = c.loop-i.invariant in
+    read_more _ _ _ _ r c.loop-i-test.true
+    c.if-b-lt48.false (ltb-false _ _ c.if-b-gt57.false-raw) (omega (arith, ltb-false))
+
+pub returns : goal.returns
+returns c = read_done _ _ _ _ c.loop-i.invariant c.loop-i-test.false

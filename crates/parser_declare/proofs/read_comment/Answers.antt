@@ -1,0 +1,15 @@
+-- Goals of `parser_declare::read_comment` that the search leaves.
+use Rattle.command.specs.Meaning.{comment}
+use Rattle.parser_part.proofs.Arms.{remark-on, remark-off}
+use borrow.Author.Rules.{rules}
+use Rattle.parser_declare.proofs.read_comment.Goals as goal
+
+pub returns-in-Word : goal.returns-in-Word
+returns-in-Word c =
+    remark-on c.requires comment c.read_string_command-tok.ensures
+    c.in-Word.is
+
+pub returns-in-Refused : goal.returns-in-Refused
+returns-in-Refused c =
+    remark-off c.requires comment c.read_string_command-tok.ensures
+    c.in-Refused.is

@@ -1,0 +1,6 @@
+-- Goals of `read_calls::find_scope` that the search leaves.
+use borrow.Author.Rules.{rules}
+use Rattle.read_calls.proofs.find_scope.Goals as goal
+
+pub returns : goal.returns
+returns c = record { status = (rw (← c.find_scope.ensures) c.found.ensures).0; row = (rw (← c.find_scope.ensures) c.found.ensures).1 }

@@ -1,0 +1,47 @@
+-- Goals of `read_calls::read` that the search leaves.
+use mathlib.Core.Path.{refl, sym, ◌∙◌}
+use Rattle.read_calls.specs.Reading.{read_call}
+use Rattle.vcd_state.proofs.Taken.{cursor-four}
+use borrow.Author.Rules.{rules}
+use Rattle.read_calls.proofs.read.Goals as goal
+
+pub put_cursor-requires : goal.put_cursor-requires
+put_cursor-requires c = cursor-four _ c.cursor_of.ensures c.in-Is.is
+
+pub returns-in-Is : goal.returns-in-Is
+unfolding read_call
+returns-in-Is c =
+    record {
+      status = (rw (
+        sym c.cursor_of.ensures ∙ c.in-Is.is,
+        c.read_status.ensures,
+        c.put_cursor.ensures,
+        c.read-a.ensures.answer,
+      )
+          (refl, (refl, (c.read-a.ensures.table, refl)))).0;
+      cursor = (rw (
+        sym c.cursor_of.ensures ∙ c.in-Is.is,
+        c.read_status.ensures,
+        c.put_cursor.ensures,
+        c.read-a.ensures.answer,
+      )
+          (refl, (refl, (c.read-a.ensures.table, refl)))).1.0;
+      records = (rw (
+        sym c.cursor_of.ensures ∙ c.in-Is.is,
+        c.read_status.ensures,
+        c.put_cursor.ensures,
+        c.read-a.ensures.answer,
+      )
+          (refl, (refl, (c.read-a.ensures.table, refl)))).1.1.0;
+      count = (rw (
+        sym c.cursor_of.ensures ∙ c.in-Is.is,
+        c.read_status.ensures,
+        c.put_cursor.ensures,
+        c.read-a.ensures.answer,
+      )
+          (refl, (refl, (c.read-a.ensures.table, refl)))).1.1.1;
+    }
+
+pub returns-in-Bad : goal.returns-in-Bad
+unfolding read_call
+returns-in-Bad c = record { status = (rw (sym c.cursor_of.ensures ∙ c.in-Bad.is) (refl, (refl, (refl, refl)))).0; cursor = (rw (sym c.cursor_of.ensures ∙ c.in-Bad.is) (refl, (refl, (refl, refl)))).1.0; records = (rw (sym c.cursor_of.ensures ∙ c.in-Bad.is) (refl, (refl, (refl, refl)))).1.1.0; count = (rw (sym c.cursor_of.ensures ∙ c.in-Bad.is) (refl, (refl, (refl, refl)))).1.1.1 }

@@ -1,0 +1,35 @@
+-- Goals of `real::is_exponent` that the search leaves.
+use mathlib.Core.Path.{sym, ◌∙◌}
+use mathlib.Core.Logic.{⊎_elim}
+use lib.Dec.{eqb, ltb}
+use lib.ListN.{length}
+use borrow.Author.Tests.{eq-eqb, ne_eqb, eqb-true, eqb-false, not-true, not-false}
+use Rattle.text.proofs.Lists.{take_rest}
+use Rattle.real.specs.Real.{digits_in, is_exponent}
+use Rattle.real.proofs.Reals.{has_first, has-second, has-neither, Both, second_holds, second-fails, exponent-none, exponent-bad, exponent-rest}
+use borrow.Author.Rules.{rules}
+use Rattle.real.proofs.is_exponent.Goals as goal
+use Rattle.real.proofs.is_exponent.Goals.{After-unsigned-rest}
+
+pub returns-then-s-eq0 : goal.returns-then-s-eq0
+returns-then-s-eq0 c = exponent-none _ c.if-s-eq0.true
+
+pub returns-then-b-ne69 : goal.returns-then-b-ne69
+returns-then-b-ne69 c =
+    exponent-bad _ c.if-s-eq0.false
+    (has-neither 101 69 _ c.if-b-ne101.true (eqb-false _ 69 (not-true _ c.if-b-ne69.true-raw)))
+
+-- what stands behind the `e` decides
+behind : (c : After-unsigned-rest)
+    → Both (ltb 0 (length c.unsigned-rest.result.now))
+    (eqb (length (digits_in c.unsigned-rest.result.now)) (length c.unsigned-rest.result.now))
+    (is_exponent c.args.s.now)
+behind c =
+    exponent-rest _ _ (rw (take_rest _ 1) at c.unsigned-rest.ensures) c.if-s-eq0.false
+    (⊎_elim (λ w. has-second 101 69 _ (eqb-true _ 69 (not-false _ w.1.left))) (λ w. has_first 101 69 _ w.left) c.else-b-ne101.branch)
+
+pub returns-then-count_digits-rest : goal.returns-then-count_digits-rest
+returns-then-count_digits-rest c = second_holds (behind (goal.at.returns-then-count_digits-rest c).After-unsigned-rest) (eq-eqb _ _ (sym c.count_digits.ensures ∙ c.if-count_digits-rest.true))
+
+pub returns : goal.returns
+returns c = second-fails (behind (goal.at.returns c).After-unsigned-rest) (ne_eqb _ _ (λ q. c.if-count_digits-rest.false (c.count_digits.ensures ∙ q)))

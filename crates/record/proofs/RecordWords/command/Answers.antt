@@ -1,0 +1,54 @@
+-- Goals of `record::RecordWords::command` that the search leaves.
+use mathlib.Core.Logic.{⊎_elim}
+use mathlib.Core.Path.{sym, ap, ◌∙◌}
+use borrow.Author.Tests.{eq-eqb, ne_eqb, not-true, not-false}
+use lib.Dec.{eqb}
+use Rattle.rows.specs.Rows.{all_zero}
+use Rattle.record.specs.Record.{command_of}
+use Rattle.record.specs.declared.Recorded.{Recorded}
+use Rattle.record.proofs.Uses.{used, var-row}
+use borrow.Author.Rules.{rules}
+use Rattle.record.proofs.RecordWords.command.Goals as goal
+
+pub returns-then-self-eq-VAR : goal.returns-then-self-eq-VAR
+returns-then-self-eq-VAR c = c.var_of.ensures ∙ rw (c.row.ensures, c.var_row.ensures) (var-row _ c.if-self-eq-VAR.true)
+
+pub returns-then-self-ne0 : goal.returns-then-self-ne0
+unfolding command_of all_zero
+returns-then-self-ne0 c =
+    let a = c.args.self in
+    rw (ne_eqb _ 7 c.if-self-eq-VAR.false)
+    (⊎_elim (λ h. rw (ne_eqb _ 0 h.taken))
+    (⊎_elim (λ h. rw (eq-eqb _ 0 h.0.left, not-true (eqb a.first 0) h.2.taken))
+    (λ h. rw (eq-eqb _ 0 h.0.left, not-false (eqb a.first 0) h.2.left, not-true (eqb a.second 0) h.4.taken)))
+    c.then-self-ne0.branch)
+
+pub returns-then-not-is_used : goal.returns-then-not-is_used
+unfolding command_of all_zero
+returns-then-not-is_used c =
+    let a = c.args.self in
+    rw (
+      ne_eqb _ 7 c.if-self-eq-VAR.false,
+      eq-eqb _ 0 c.if-self-ne0.false,
+      not-false (eqb a.first 0) c.if-self-ne0-2.false-raw,
+      not-false (eqb a.second 0) c.if-self-ne0-3.false-raw,
+      ← c.is_used.ensures,
+      not-true c.is_used.result c.if-not-is_used.true-raw,
+    )
+
+pub made-requires : goal.made-requires
+made-requires c = (used _ (sym c.is_used.ensures ∙ not-false _ c.if-not-is_used.false-raw)).number
+
+pub returns : goal.returns
+unfolding command_of all_zero
+returns c =
+    let a = c.args.self in
+    rw (
+      ne_eqb _ 7 c.if-self-eq-VAR.false,
+      eq-eqb _ 0 c.if-self-ne0.false,
+      not-false (eqb a.first 0) c.if-self-ne0-2.false-raw,
+      not-false (eqb a.second 0) c.if-self-ne0-3.false-raw,
+      ← c.is_used.ensures,
+      not-false c.is_used.result c.if-not-is_used.false-raw,
+    )
+    (ap Recorded.Is c.made.ensures)

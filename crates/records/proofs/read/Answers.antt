@@ -1,0 +1,110 @@
+-- Goals of `records::read` that the search leaves.
+use Prim.Native.Nat.{ℕ, ◌+◌, ◌-◌, ◌<◌}
+use mathlib.Core.Path.{◌≡◌, sym, ◌∙◌}
+use mathlib.Core.Bool.{true}
+use mathlib.Core.List.{List}
+use native.Mathlib.Omega.{arith}
+use borrow.Author.Tests.{not-true, not-false}
+use lib.ListN.{length}
+use Rattle.parser.specs.Next.{is_good, next_from}
+use Rattle.parser.proofs.Ahead.{good-valid}
+use Rattle.parser.proofs.All.{less-left}
+use Rattle.token.specs.declared.Cursor.{Cursor}
+use Rattle.records.specs.Read.{as_slow, Ran}
+use Rattle.records.specs.declared.Step.{Step}
+use Rattle.records.proofs.Taken.{Stepped, told, ran-start, ran-length, ran-join, ran-read, ran-full, ran-last, read-bad}
+use borrow.Author.Rules.{rules}
+use Rattle.records.proofs.read.Goals as goal
+use Rattle.records.proofs.read.Goals.{After-fast_run-ran, After-step_fast, Else-not-placed, In-Hit}
+
+-- the cursor was good; what the run before a step came to, and what the step told
+good : (c : Else-not-placed) →
+    let a = c.args in
+    is_good a.input.now a.c ≡ true
+good c = sym c.placed.ensures ∙ not-false _ c.if-not-placed.false-raw
+
+abbrev input_of : After-fast_run-ran → List ℕ
+input_of c = c.args.input.now
+
+abbrev Comes : After-fast_run-ran → Cursor → ℕ → List ℕ → Type 0
+Comes c = let a = c.args in Ran (input_of c) a.c 0 a.records.now
+
+come : (c : After-fast_run-ran) → Comes c c.fast_run-ran.result.cursor c.fast_run-ran.result.count c.fast_run-ran.new.1.1.0
+come c = ran-join _ _ _ _ _ _ _ c.loop-n.invariant _ _ _ c.fast_run-ran.ensures
+
+abbrev run_of : After-step_fast → After-fast_run-ran
+run_of c = c.«After-fast_run-ran»
+
+abbrev Told : After-step_fast → Step → Type 0
+Told c q = let s = input_of (run_of c) in let d = (run_of c).fast-run.result.cursor in Stepped (next_from s d) (as_slow s d q)
+
+step : (c : After-step_fast) (q : Step) → c.step_fast.result ≡ q → Told c q
+step c q e = told _ _ _ _ q c.step_fast.ensures.0 e
+
+inside : (c : In-Hit) → c.in-Hit.end < length (input_of (run_of c.«After-step_fast»))
+inside c = rw c.in-Hit.is at c.step_fast.ensures.1
+
+-- a command was read: less is left, and one more is made
+less : (c : After-step_fast) (d : Cursor) → Told c (Step.Read d) →
+    let s = input_of (run_of c) in
+    length s - d.place < length s - (run_of c).before.before.loop.cur.place
+less c d q = omega (arith, less-left _ _ _ _ q.1, (run_of c).fast-run.ensures.past)
+
+more : (c : After-step_fast) (d : Cursor) → Told c (Step.Read d)
+    → Comes (run_of c) d ((run_of c).fast-run.result.count + 1) c.step_fast.new.1.1.0
+more c d q = ran-read _ _ _ _ _ _ (come (run_of c)) d q _ c.step_fast.ensures.2 c.if-cap-n.false
+
+pub returns-then-not-placed : goal.returns-then-not-placed
+returns-then-not-placed c = record { answer = (rw c.answer.ensures (read-bad _ _ _ (sym c.placed.ensures ∙ not-true _ c.if-not-placed.true-raw))).0; table = (rw c.answer.ensures (read-bad _ _ _ (sym c.placed.ensures ∙ not-true _ c.if-not-placed.true-raw))).1 }
+
+pub loop-n-init : goal.loop-n-init
+loop-n-init c = ran-start _ _ _ _ (good-valid _ _ (good (goal.at.loop-n-init c).Else-not-placed)) (omega arith)
+
+pub fast_run-ran-requires : goal.fast_run-ran-requires
+fast_run-ran-requires c = let l = c.loop-n.invariant in (l.valid, omega (arith, l.room, ran-length _ _ _ _ _ _ _ l))
+
+pub shape_of-records-then-cap-n : goal.shape_of-records-then-cap-n
+shape_of-records-then-cap-n c = ran-length _ _ _ _ _ _ _ (come (goal.at.shape_of-records-then-cap-n c).After-fast_run-ran)
+
+pub returns-then-cap-n : goal.returns-then-cap-n
+returns-then-cap-n c =
+    record { answer = (rw c.answer-then-cap-n.ensures (ran-full _ _ _ _ _ _ (come (goal.at.returns-then-cap-n c).After-fast_run-ran) (good (goal.at.returns-then-cap-n c).Else-not-placed) (omega (arith, c.if-cap-n.true)))).0; table = (rw c.answer-then-cap-n.ensures (ran-full _ _ _ _ _ _ (come (goal.at.returns-then-cap-n c).After-fast_run-ran) (good (goal.at.returns-then-cap-n c).Else-not-placed) (omega (arith, c.if-cap-n.true)))).1 }
+
+pub step_fast-requires : goal.step_fast-requires
+step_fast-requires c =
+    let l = come (goal.at.step_fast-requires c).After-fast_run-ran in
+    record { valid = l.valid; n_in_bounds = omega (arith, ran-length _ _ _ _ _ _ _ l, c.if-cap-n.false) }
+
+pub bounds-input-end : goal.bounds-input-end
+bounds-input-end c = inside (goal.at.bounds-input-end c).In-Hit
+
+pub word_read-cur-requires : goal.word_read-cur-requires
+word_read-cur-requires c =
+    record { end_lt_limit = omega (arith, inside (goal.at.word_read-cur-requires c).In-Hit, c.fast_run-ran.ensures.valid); line_bound = omega (arith, inside (goal.at.word_read-cur-requires c).In-Hit, c.fast_run-ran.ensures.valid) }
+
+pub loop-n-smaller-in-Hit : goal.loop-n-smaller-in-Hit
+loop-n-smaller-in-Hit c =
+    rw c.word_read-cur.ensures (less (goal.at.loop-n-smaller-in-Hit c).After-step_fast _ (step (goal.at.loop-n-smaller-in-Hit c).After-step_fast _ c.in-Hit.is))
+
+pub loop-n-preserved-in-Hit : goal.loop-n-preserved-in-Hit
+loop-n-preserved-in-Hit c =
+    rw c.word_read-cur.ensures (more (goal.at.loop-n-preserved-in-Hit c).After-step_fast _ (step (goal.at.loop-n-preserved-in-Hit c).After-step_fast _ c.in-Hit.is))
+
+pub loop-n-smaller : goal.loop-n-smaller
+loop-n-smaller c = less (goal.at.loop-n-smaller c).After-step_fast _ (step (goal.at.loop-n-smaller c).After-step_fast _ c.in-Read.is)
+
+pub loop-n-preserved : goal.loop-n-preserved
+loop-n-preserved c = more (goal.at.loop-n-preserved c).After-step_fast _ (step (goal.at.loop-n-preserved c).After-step_fast _ c.in-Read.is)
+
+pub shape_of-records-in-Ends : goal.shape_of-records-in-Ends
+shape_of-records-in-Ends c = c.step_fast.auto.1.1.0 ∙ ran-length _ _ _ _ _ _ _ (come (run_of (goal.at.shape_of-records-in-Ends c).After-step_fast))
+
+pub returns-in-Ends : goal.returns-in-Ends
+returns-in-Ends c =
+    let r = run_of (goal.at.returns-in-Ends c).After-step_fast in
+    record {
+      answer = (rw (c.answer-in-Ends.ensures, c.step_fast.ensures.2)
+          (ran-last _ _ _ _ _ _ (come r) (good r.before.before.before) _ _ (step (goal.at.returns-in-Ends c).After-step_fast _ c.in-Ends.is) c.if-cap-n.false)).0;
+      table = (rw (c.answer-in-Ends.ensures, c.step_fast.ensures.2)
+          (ran-last _ _ _ _ _ _ (come r) (good r.before.before.before) _ _ (step (goal.at.returns-in-Ends c).After-step_fast _ c.in-Ends.is) c.if-cap-n.false)).1;
+    }

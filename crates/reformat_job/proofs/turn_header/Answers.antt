@@ -1,0 +1,28 @@
+-- Goals of `reformat_job::turn_header` that the search leaves.
+use mathlib.Core.Path.{sym, ap, ◌∙◌}
+use Rattle.reformat_job.specs.Turns.{headed_turn}
+use Rattle.reformat_job.proofs.Calls.{header-turn, header-left}
+use borrow.Author.Rules.{rules}
+use Rattle.reformat_job.proofs.turn_header.Goals as goal
+
+pub returns-in-Bytes : goal.returns-in-Bytes
+returns-in-Bytes c = let x = c.args in
+let f = c.new.ensures in
+let d = c.header.ensures in record { answer = ((
+      ap (headed_turn x.c) (sym c.in-Bytes.is ∙ header-turn x.input.now x.kept x.rows.now x.count x.out.now f d),
+      header-left x.input.now x.kept x.rows.now x.count x.out.now f d,
+    )).0; bytes = ((
+      ap (headed_turn x.c) (sym c.in-Bytes.is ∙ header-turn x.input.now x.kept x.rows.now x.count x.out.now f d),
+      header-left x.input.now x.kept x.rows.now x.count x.out.now f d,
+    )).1 }
+
+pub returns-in-Refused : goal.returns-in-Refused
+returns-in-Refused c = let x = c.args in
+let f = c.new.ensures in
+let d = c.header.ensures in record { answer = ((
+      ap (headed_turn x.c) (sym c.in-Refused.is ∙ header-turn x.input.now x.kept x.rows.now x.count x.out.now f d),
+      header-left x.input.now x.kept x.rows.now x.count x.out.now f d,
+    )).0; bytes = ((
+      ap (headed_turn x.c) (sym c.in-Refused.is ∙ header-turn x.input.now x.kept x.rows.now x.count x.out.now f d),
+      header-left x.input.now x.kept x.rows.now x.count x.out.now f d,
+    )).1 }

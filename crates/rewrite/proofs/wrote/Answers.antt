@@ -1,0 +1,9 @@
+-- Goals of `rewrite::wrote` that the search leaves.
+use borrow.Author.Rules.{rules}
+use Rattle.rewrite.proofs.wrote.Goals as goal
+
+pub returns-in-Bytes : goal.returns-in-Bytes
+returns-in-Bytes c = rw c.in-Bytes.is
+
+pub returns-in-Refused : goal.returns-in-Refused
+returns-in-Refused c = rw c.in-Refused.is

@@ -1,0 +1,6 @@
+-- Goals of `rows::var_words` that the search leaves.
+use borrow.Author.Rules.{rules}
+use Rattle.rows.proofs.var_words.Goals as goal
+
+pub returns : goal.returns
+returns c = rw (c.number.ensures, c.index_form.ensures, c.first_word.ensures, c.second_word.ensures)

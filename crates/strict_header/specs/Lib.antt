@@ -1,3 +1,0 @@
-pub mod StrictHeader
-pub mod Judged
-pub mod Stated

@@ -1,2 +1,0 @@
--- `Telling` has what is told of a line that is put.
-mod Telling

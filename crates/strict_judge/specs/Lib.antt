@@ -1,2 +1,0 @@
-pub mod Ieee
-pub mod Judge

@@ -1,2 +1,0 @@
-pub mod StrictRead
-pub mod Stated

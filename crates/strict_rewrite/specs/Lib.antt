@@ -1,2 +1,0 @@
-pub mod StrictRewrite
-pub mod Stated

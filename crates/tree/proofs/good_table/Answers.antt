@@ -1,0 +1,38 @@
+-- Goals of `tree::good_table` that the search leaves.
+use Prim.Native.Nat.{◌-◌, ◌≤◌}
+use mathlib.Core.Path.{◌≡◌, sym, ◌∙◌}
+use native.Mathlib.Omega.{arith}
+use borrow.Author.Rules.{rules}
+use Rattle.rows.specs.Good.{is_good_from, is_good_table}
+use Rattle.rows.specs.Rows.{top, rows_of}
+use Rattle.tree.specs.Chain.{chain, base, Under}
+use Rattle.tree.specs.Chain.{rest}
+use Rattle.tree.proofs.Rows.{last_row}
+use Rattle.tree.proofs.Chains.{too_many, good_start, base-start, under-start, row-off, row_on}
+use borrow.Author.Rules.{rules}
+use Rattle.tree.proofs.good_table.Goals as goal
+
+pub returns-then-n-gt-MOST_ROWS : goal.returns-then-n-gt-MOST_ROWS
+returns-then-n-gt-MOST_ROWS c = sym (too_many _ _ c.if-n-gt-MOST_ROWS.true)
+
+pub loop-i-init : goal.loop-i-init
+loop-i-init c = (omega arith, omega arith, base-start _, under-start _, good_start _ _ c.if-n-gt-MOST_ROWS.false)
+
+pub stand-requires : goal.stand-requires
+stand-requires c = let l = c.loop-i in (omega arith, l.invariant.1, l.invariant.2, l.invariant.3)
+
+pub returns-in-Off : goal.returns-in-Off
+returns-in-Off c =
+    let l = c.loop-i in
+    sym (l.invariant.4 ∙ row-off _ _ _ _ _ c.loop-i-test.true (rw c.in-Off.is at c.stand.ensures))
+
+pub loop-i-preserved : goal.loop-i-preserved
+loop-i-preserved c =
+    let l = c.loop-i in
+    let x = rw c.in-On.is at c.stand.ensures in
+    (omega arith, x.deep, x.ends, x.under, l.invariant.4 ∙ row_on _ _ _ _ _ c.loop-i-test.true x)
+
+pub returns : goal.returns
+returns c =
+    let l = c.loop-i in
+    sym (l.invariant.4 ∙ last_row _ _ _ _ l.invariant.0 c.loop-i-test.false)

@@ -1,0 +1,32 @@
+-- Goals of `tree::place::some_outside` that the search leaves.
+use Prim.Native.Nat.{◌-◌, ◌≤◌}
+use mathlib.Core.Path.{◌≡◌, sym, ap, ◌∙◌}
+use native.Mathlib.Omega.{arith}
+use Rattle.rows.specs.Rows.{rows_of}
+use Rattle.tree.specs.Chain.{rest}
+use Rattle.tree.specs.Place.{some_outside}
+use Rattle.tree.proofs.Rows.{rest_all}
+use Rattle.tree.proofs.Places.{outside-past, outside-here, outside-more, outside-end}
+use borrow.Author.Rules.{rules}
+use Rattle.tree.proofs.place.some_outside.Goals as goal
+
+pub loop-i-init : goal.loop-i-init
+loop-i-init c = (omega arith, ap (some_outside _) (sym (rest_all _ _)))
+
+pub returns-then-rows-i : goal.returns-then-rows-i
+returns-then-rows-i c = let l = c.loop-i in sym (l.invariant.1 ∙ outside-past _ _ _ _ c.if-rows-i.true)
+
+pub returns-then-row_outside : goal.returns-then-row_outside
+returns-then-row_outside c =
+    let l = c.loop-i in
+    let e = sym c.row_outside.ensures ∙ c.if-row_outside.true in
+    sym (l.invariant.1 ∙ outside-here _ _ _ _ c.loop-i-test.true e)
+
+pub loop-i-preserved : goal.loop-i-preserved
+loop-i-preserved c =
+    let l = c.loop-i in
+    let e = sym c.row_outside.ensures ∙ c.if-row_outside.false in
+    (omega arith, l.invariant.1 ∙ outside-more _ _ _ _ c.loop-i-test.true e)
+
+pub returns : goal.returns
+returns c = let l = c.loop-i in sym (l.invariant.1 ∙ outside-end _ _ _ _ l.invariant.0 c.loop-i-test.false)

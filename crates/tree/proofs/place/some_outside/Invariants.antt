@@ -1,0 +1,17 @@
+-- What the loops of `tree::place::some_outside` keep.
+use Prim.Native.Nat.{◌-◌, ◌≤◌}
+use mathlib.Core.Path.{◌≡◌, sym, ap, ◌∙◌}
+use native.Mathlib.Omega.{arith}
+use Rattle.rows.specs.Rows.{rows_of}
+use Rattle.tree.specs.Chain.{rest}
+use Rattle.tree.specs.Place.{some_outside}
+use Rattle.tree.proofs.Rows.{rest_all}
+use Rattle.tree.proofs.Places.{outside-past, outside-here, outside-more, outside-end}
+use borrow.Author.Rules.{rules}
+use Rattle.tree.proofs.place.some_outside.Given as goal
+
+abbrev pub invariant-loop-i : goal.invariant-loop-i
+invariant-loop-i l = (l.i ≤ l.count) × (some_outside l.src (rows_of l.rows l.count) ≡ some_outside l.src (rest l.rows l.count l.i))
+
+abbrev pub decreases-loop-i : goal.decreases-loop-i
+decreases-loop-i l = l.count - l.i

@@ -1,0 +1,12 @@
+-- Goals of `vcd_state::open_word` that the search leaves.
+use native.Mathlib.Omega.{arith}
+use Rattle.text.proofs.Orders.{small}
+use Rattle.command.proofs.Numbers.{sim-order}
+use borrow.Author.Rules.{rules}
+use Rattle.vcd_state.proofs.open_word.Goals as goal
+
+pub overflow_add-result : goal.overflow_add-result
+overflow_add-result c = omega (arith, c.number.ensures, small sim-order c.in-Of.k)
+
+pub returns-in-Of : goal.returns-in-Of
+returns-in-Of c = rw (c.in-Of.is, c.number.ensures)

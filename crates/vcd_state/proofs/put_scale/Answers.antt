@@ -1,0 +1,9 @@
+-- Goals of `vcd_state::put_scale` that the search leaves.
+use borrow.Author.Rules.{rules}
+use Rattle.vcd_state.proofs.put_scale.Goals as goal
+
+pub returns-in-None : goal.returns-in-None
+returns-in-None c = rw c.in-None.is c.put_three.ensures
+
+pub returns-in-Is : goal.returns-in-Is
+returns-in-Is c = rw (c.in-Is.is, ← c.number.ensures) c.put_three-in-Is.ensures

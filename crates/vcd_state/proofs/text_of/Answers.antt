@@ -1,0 +1,12 @@
+-- Goals of `vcd_state::text_of` that the search leaves.
+use borrow.Author.Tests.{ne_eqb}
+use Rattle.vcd_state.specs.State.{text_of}
+use Rattle.vcd_state.proofs.text_of.Goals as goal
+
+pub returns-in-0 : goal.returns-in-0
+unfolding text_of
+returns-in-0 c = rw c.in-0.is
+
+pub returns-in_default : goal.returns-in_default
+unfolding text_of
+returns-in_default c = rw (ne_eqb _ _ c.in_default.in_default-own.rest.1)

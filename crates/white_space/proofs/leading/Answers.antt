@@ -1,0 +1,22 @@
+-- Goals of `white_space::leading` that the search leaves.
+use Prim.Native.Nat.{◌-◌}
+use native.Mathlib.Omega.{arith}
+use borrow.Author.Rules.{rules}
+use lib.ListN.{length}
+use Rattle.white_space.proofs.Trimming.{Skipped, skip-start, skip-room, skip-more, skip-last, skip_all}
+use Rattle.white_space.proofs.leading.Goals as goal
+
+pub loop-i-init : goal.loop-i-init
+loop-i-init c = skip-start _
+
+pub returns-then-n-eq0 : goal.returns-then-n-eq0
+returns-then-n-eq0 c = skip-last _ _ _ c.loop-i.invariant c.blank_at-n.ensures c.if-n-eq0.true
+
+pub overflow_add-i : goal.overflow_add-i
+overflow_add-i c = omega (arith, skip-room _ _ _ c.loop-i.invariant c.blank_at-n.ensures)
+
+pub loop-i-preserved : goal.loop-i-preserved
+loop-i-preserved c = skip-more _ _ _ c.loop-i.invariant c.blank_at-n.ensures c.if-n-eq0.false
+
+pub returns : goal.returns
+returns c = skip_all _ _ c.loop-i.invariant c.loop-i-test.false

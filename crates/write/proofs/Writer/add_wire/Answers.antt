@@ -1,0 +1,6 @@
+-- Goals of `write::Writer::add_wire` that the search leaves.
+use borrow.Author.Rules.{rules}
+use Rattle.write.proofs.Writer.add_wire.Goals as goal
+
+pub returns : goal.returns
+returns c = c.add_var.ensures

@@ -1,0 +1,9 @@
+-- Goals of `write::Writer::laid` that the search leaves.
+use borrow.Author.Rules.{rules}
+use Rattle.write.proofs.Writer.laid.Goals as goal
+
+pub returns-in-Count : goal.returns-in-Count
+returns-in-Count c = rw c.in-Count.is
+
+pub returns-in-NoRoom : goal.returns-in-NoRoom
+returns-in-NoRoom c = rw c.in-NoRoom.is

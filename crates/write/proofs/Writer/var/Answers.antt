@@ -1,0 +1,6 @@
+-- Goals of `write::Writer::var` that the search leaves.
+use borrow.Author.Rules.{rules}
+use Rattle.write.proofs.Writer.var.Goals as goal
+
+pub returns : goal.returns
+returns c = c.var_def.ensures

@@ -1,0 +1,100 @@
+-- Goals of `write_calls::rewrite` that the search leaves.
+use mathlib.Core.Path.{refl, sym, ◌∙◌}
+use Rattle.write_calls.specs.Writing.{rewrite_call}
+use Rattle.vcd_state.proofs.Taken.{cursor-four, writer-three}
+use borrow.Author.Rules.{rules}
+use Rattle.write_calls.proofs.rewrite.Goals as goal
+
+pub put_cursor-requires : goal.put_cursor-requires
+put_cursor-requires c = cursor-four _ c.cursor_of.ensures c.in-Is.is
+
+pub put_writer-requires : goal.put_writer-requires
+put_writer-requires c = writer-three _ c.Writer-of.ensures c.in-Is-writer_of.is
+
+pub returns-in-Is-writer_of : goal.returns-in-Is-writer_of
+unfolding rewrite_call
+returns-in-Is-writer_of c =
+    record {
+      status = (rw (
+        sym c.cursor_of.ensures ∙ c.in-Is.is,
+        sym c.Writer-of.ensures ∙ c.in-Is-writer_of.is,
+        c.rewrite_status.ensures.status,
+        c.rewrite_status.ensures.line,
+        c.put_writer.ensures,
+        c.put_cursor.ensures,
+        c.rewrite-a.ensures.answer,
+      )
+          (refl, (refl, (refl, (c.rewrite-a.ensures.bytes, (refl, refl)))))).0;
+      cursor = (rw (
+        sym c.cursor_of.ensures ∙ c.in-Is.is,
+        sym c.Writer-of.ensures ∙ c.in-Is-writer_of.is,
+        c.rewrite_status.ensures.status,
+        c.rewrite_status.ensures.line,
+        c.put_writer.ensures,
+        c.put_cursor.ensures,
+        c.rewrite-a.ensures.answer,
+      )
+          (refl, (refl, (refl, (c.rewrite-a.ensures.bytes, (refl, refl)))))).1.0;
+      writer = (rw (
+        sym c.cursor_of.ensures ∙ c.in-Is.is,
+        sym c.Writer-of.ensures ∙ c.in-Is-writer_of.is,
+        c.rewrite_status.ensures.status,
+        c.rewrite_status.ensures.line,
+        c.put_writer.ensures,
+        c.put_cursor.ensures,
+        c.rewrite-a.ensures.answer,
+      )
+          (refl, (refl, (refl, (c.rewrite-a.ensures.bytes, (refl, refl)))))).1.1.0;
+      out = (rw (
+        sym c.cursor_of.ensures ∙ c.in-Is.is,
+        sym c.Writer-of.ensures ∙ c.in-Is-writer_of.is,
+        c.rewrite_status.ensures.status,
+        c.rewrite_status.ensures.line,
+        c.put_writer.ensures,
+        c.put_cursor.ensures,
+        c.rewrite-a.ensures.answer,
+      )
+          (refl, (refl, (refl, (c.rewrite-a.ensures.bytes, (refl, refl)))))).1.1.1.0;
+      count = (rw (
+        sym c.cursor_of.ensures ∙ c.in-Is.is,
+        sym c.Writer-of.ensures ∙ c.in-Is-writer_of.is,
+        c.rewrite_status.ensures.status,
+        c.rewrite_status.ensures.line,
+        c.put_writer.ensures,
+        c.put_cursor.ensures,
+        c.rewrite-a.ensures.answer,
+      )
+          (refl, (refl, (refl, (c.rewrite-a.ensures.bytes, (refl, refl)))))).1.1.1.1.0;
+      line = (rw (
+        sym c.cursor_of.ensures ∙ c.in-Is.is,
+        sym c.Writer-of.ensures ∙ c.in-Is-writer_of.is,
+        c.rewrite_status.ensures.status,
+        c.rewrite_status.ensures.line,
+        c.put_writer.ensures,
+        c.put_cursor.ensures,
+        c.rewrite-a.ensures.answer,
+      )
+          (refl, (refl, (refl, (c.rewrite-a.ensures.bytes, (refl, refl)))))).1.1.1.1.1;
+    }
+
+pub returns-in-Bad-writer_of : goal.returns-in-Bad-writer_of
+unfolding rewrite_call
+returns-in-Bad-writer_of c =
+    record {
+      status = (rw (sym c.cursor_of.ensures ∙ c.in-Is.is, sym c.Writer-of.ensures ∙ c.in-Bad-writer_of.is)
+          (refl, (refl, (refl, (refl, (refl, refl)))))).0;
+      cursor = (rw (sym c.cursor_of.ensures ∙ c.in-Is.is, sym c.Writer-of.ensures ∙ c.in-Bad-writer_of.is)
+          (refl, (refl, (refl, (refl, (refl, refl)))))).1.0;
+      writer = (rw (sym c.cursor_of.ensures ∙ c.in-Is.is, sym c.Writer-of.ensures ∙ c.in-Bad-writer_of.is)
+          (refl, (refl, (refl, (refl, (refl, refl)))))).1.1.0;
+      out = (rw (sym c.cursor_of.ensures ∙ c.in-Is.is, sym c.Writer-of.ensures ∙ c.in-Bad-writer_of.is)
+          (refl, (refl, (refl, (refl, (refl, refl)))))).1.1.1.0;
+      count = (rw (sym c.cursor_of.ensures ∙ c.in-Is.is, sym c.Writer-of.ensures ∙ c.in-Bad-writer_of.is)
+          (refl, (refl, (refl, (refl, (refl, refl)))))).1.1.1.1.0;
+      line = (rw (sym c.cursor_of.ensures ∙ c.in-Is.is, sym c.Writer-of.ensures ∙ c.in-Bad-writer_of.is)
+          (refl, (refl, (refl, (refl, (refl, refl)))))).1.1.1.1.1;
+    }
+
+pub returns-in-Bad : goal.returns-in-Bad
+unfolding rewrite_call
+returns-in-Bad c = record { status = (rw (sym c.cursor_of.ensures ∙ c.in-Bad.is) (refl, (refl, (refl, (refl, (refl, refl)))))).0; cursor = (rw (sym c.cursor_of.ensures ∙ c.in-Bad.is) (refl, (refl, (refl, (refl, (refl, refl)))))).1.0; writer = (rw (sym c.cursor_of.ensures ∙ c.in-Bad.is) (refl, (refl, (refl, (refl, (refl, refl)))))).1.1.0; out = (rw (sym c.cursor_of.ensures ∙ c.in-Bad.is) (refl, (refl, (refl, (refl, (refl, refl)))))).1.1.1.0; count = (rw (sym c.cursor_of.ensures ∙ c.in-Bad.is) (refl, (refl, (refl, (refl, (refl, refl)))))).1.1.1.1.0; line = (rw (sym c.cursor_of.ensures ∙ c.in-Bad.is) (refl, (refl, (refl, (refl, (refl, refl)))))).1.1.1.1.1 }

@@ -1,0 +1,45 @@
+-- Goals of `write_header::header` that the search leaves.
+use mathlib.Core.Path.{sym, ◌∙◌}
+use borrow.Author.Tests.{not-true, not-false}
+use Rattle.rows.specs.Rows.{rows_of}
+use Rattle.write_header.specs.Meanings.{row_meanings}
+use Rattle.write_header.specs.Pour.{stop}
+use mathlib.Core.List.{[]}
+use Rattle.write_header.proofs.Calls.{bad-place, bad-table, call-pours, of-outcome, does-too}
+use Rattle.write_header.proofs.Places.{inside}
+use borrow.Author.Rules.{rules}
+use Rattle.write_header.proofs.header.Goals as goal
+
+pub returns-then-misplaced : goal.returns-then-misplaced
+returns-then-misplaced c = bad-place _ _ _ _ _ _ (sym c.misplaced.ensures ∙ c.if-misplaced.true)
+
+pub returns-then-not-good_table : goal.returns-then-not-good_table
+returns-then-not-good_table c =
+    bad-table _ _ _ _ _ _ (sym c.misplaced.ensures ∙ c.if-misplaced.false) (sym c.good_table.ensures ∙ not-true _ c.if-not-good_table.true-raw)
+
+pub write_kept-requires : goal.write_kept-requires
+write_kept-requires c =
+    let a = c.args in
+    let x = inside a.src.now a.h a.rows.now a.count (sym c.misplaced.ensures ∙ c.if-misplaced.false) in
+    (x.2.short, x.0, x.1)
+
+pub write_rows-requires : goal.write_rows-requires
+write_rows-requires c =
+    let a = c.args in
+    let x = inside a.src.now a.h a.rows.now a.count (sym c.misplaced.ensures ∙ c.if-misplaced.false) in
+    let y = rw c.in-Through.is at c.write-Kept.ensures in
+    (y.1, x.2, sym c.good_table.ensures ∙ not-false _ c.if-not-good_table.false-raw)
+
+pub returns-in-Through : goal.returns-in-Through
+returns-in-Through c =
+    let a = c.args in
+    let y = rw c.in-Through.is at c.write-Kept.ensures in
+    let q = call-pours a.w a.src.now a.h a.rows.now a.count a.out.now (sym c.misplaced.ensures ∙ c.if-misplaced.false) (sym c.good_table.ensures ∙ not-false _ c.if-not-good_table.false-raw) in
+    does-too (q ∙ y.2 (row_meanings a.src.now 0 [] (rows_of a.rows.now a.count))) c.write_rows.ensures
+
+pub returns-in-Refused : goal.returns-in-Refused
+returns-in-Refused c =
+    let a = c.args in
+    let y = rw c.in-Refused.is at c.write-Kept.ensures in
+    let q = call-pours a.w a.src.now a.h a.rows.now a.count a.out.now (sym c.misplaced.ensures ∙ c.if-misplaced.false) (sym c.good_table.ensures ∙ not-false _ c.if-not-good_table.false-raw) in
+    of-outcome (stop _ _ _ _) (q ∙ y (row_meanings a.src.now 0 [] (rows_of a.rows.now a.count)))

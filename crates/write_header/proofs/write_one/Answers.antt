@@ -1,0 +1,24 @@
+-- Goals of `write_header::write_one` that the search leaves.
+use mathlib.Core.Path.{refl}
+use native.Mathlib.Omega.{arith}
+use borrow.Author.Rules.{rules}
+use Rattle.write_header.proofs.Poured.{told}
+use Rattle.write_header.proofs.write_one.Goals as goal
+
+pub overflow_add-result : goal.overflow_add-result
+overflow_add-result c =
+    let a = c.args in
+    let x = rw c.in-Bytes.is at (told a.out.now a.at a.w a.src.now a.k c.requires.1 c.requires.0 refl c.command.ensures) in
+    omega (arith, x.0, c.well-formed.1.1.1.1.0)
+
+pub returns-in-Bytes : goal.returns-in-Bytes
+returns-in-Bytes c =
+    let a = c.args in
+    let x = rw c.in-Bytes.is at (told a.out.now a.at a.w a.src.now a.k c.requires.1 c.requires.0 refl c.command.ensures) in
+    (refl, x.1, x.2)
+
+pub returns-in-Refused : goal.returns-in-Refused
+returns-in-Refused c =
+    let a = c.args in
+    let x = rw c.in-Refused.is at (told a.out.now a.at a.w a.src.now a.k c.requires.1 c.requires.0 refl c.command.ensures) in
+    x

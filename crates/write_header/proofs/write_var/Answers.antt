@@ -1,0 +1,31 @@
+-- Goals of `write_header::write_var` that the search leaves.
+use mathlib.Core.Path.{refl}
+use native.Mathlib.Omega.{arith}
+use Rattle.command.specs.declared.Command.{Command}
+use Rattle.scope.specs.declared.Var.{Var}
+use Rattle.write_header.proofs.Poured.{told}
+use borrow.Author.Rules.{rules}
+use Rattle.write_header.proofs.write_var.Goals as goal
+
+abbrev it : Var → Command
+it v = Command.VarDef v.var_type v.size v.code v.reference v.index
+
+pub overflow_add-result : goal.overflow_add-result
+overflow_add-result c =
+    let a = c.args in
+    let x = rw c.in-Bytes.is at
+    (told a.out.now a.at a.w a.src.now (it a.v) c.requires.1 c.requires.0 refl c.var.ensures) in
+    omega (arith, x.0, c.well-formed.1.1.1.1.0)
+
+pub returns-in-Bytes : goal.returns-in-Bytes
+returns-in-Bytes c =
+    let a = c.args in
+    let x = rw c.in-Bytes.is at
+    (told a.out.now a.at a.w a.src.now (it a.v) c.requires.1 c.requires.0 refl c.var.ensures) in
+    (refl, x.1, x.2)
+
+pub returns-in-Refused : goal.returns-in-Refused
+returns-in-Refused c =
+    let a = c.args in
+    rw c.in-Refused.is at
+    (told a.out.now a.at a.w a.src.now (it a.v) c.requires.1 c.requires.0 refl c.var.ensures)
