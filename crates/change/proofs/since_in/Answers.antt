@@ -11,8 +11,8 @@ returns-then-w-ne-SINCE c = rw (ne_eqb _ _ c.if-w-ne-SINCE.true)
 
 pub returns-then-not-is_since : goal.returns-then-not-is_since
 unfolding since_in
-returns-then-not-is_since c = rw (eq-eqb _ _ c.if-w-ne-SINCE.false, sym c.is_since.ensures ∙ not-true _ c.if-not-is_since.true-raw)
+returns-then-not-is_since c = rw (eq-eqb _ _ c.if-w-ne-SINCE.false, sym c.is_since.ensures ∙ c.if-not-is_since.true)
 
 pub returns : goal.returns
 unfolding since_in
-returns c = rw (c.Since-of.ensures, eq-eqb _ _ c.if-w-ne-SINCE.false, sym c.is_since.ensures ∙ not-false _ c.if-not-is_since.false-raw)
+returns c = rw (c.Since-of.ensures, eq-eqb _ _ c.if-w-ne-SINCE.false, sym c.is_since.ensures ∙ c.if-not-is_since.false)

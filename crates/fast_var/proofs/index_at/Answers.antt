@@ -19,7 +19,7 @@ pub range-requires : goal.range-requires
 range-requires c =
     let n = hit (goal.at.range-requires c).In-Hit in
     let k = c.requires in
-    (n.inside, k.1, (eqb-true _ _ (not-false _ c.if-input-at-ne91.false-raw), n, c.if-input-end-eq58.true))
+    (n.inside, k.1, (c.if-input-at-ne91.false, n, c.if-input-end-eq58.true))
 
 pub closed-requires : goal.closed-requires
 closed-requires c = let n = hit (goal.at.closed-requires c).In-Hit in omega (arith, n.inside)
@@ -32,5 +32,5 @@ overflow_add-result c = let n = hit (goal.at.overflow_add-result c).In-Hit in om
 
 pub returns-then-closed : goal.returns-then-closed
 returns-then-closed c =
-    let opened = eqb-true _ _ (not-false _ c.if-input-at-ne91.false-raw) in
+    let opened = c.if-input-at-ne91.false in
     bit-here _ _ _ (c.closed.ensures c.if-closed.true) _ opened (hit (goal.at.returns-then-closed c).In-Hit)

@@ -8,7 +8,7 @@ use Rattle.fast_var.proofs.parse_var.Goals as goal
 use Rattle.fast_var.proofs.parse_var.Goals.{Else-not-begins, In-Hit}
 
 begun : (c : Else-not-begins) → Begins c.args.input.now c.spaces_end-first.result
-begun c = c.begins.ensures (not-false _ c.if-not-begins.false-raw)
+begun c = c.begins.ensures (c.if-not-begins.false)
 
 typed : (c : In-Hit)
     → HitsType c.args.input.now

@@ -26,6 +26,6 @@ coded-requires c =
 pub returns-else-input-end-ne32 : goal.returns-else-input-end-ne32
 returns-else-input-end-ne32 c =
     let h = hit (goal.at.returns-else-input-end-ne32 c).In-Hit in
-    let space = eqb-true _ _ (not-false _ c.if-input-end-ne32.false-raw) in
+    let space = c.if-input-end-ne32.false in
     goes-size c.spaces_end.ensures h.0 space _ _ h.1
     c.if-n-gt4294967295.false c.coded.result c.coded.ensures

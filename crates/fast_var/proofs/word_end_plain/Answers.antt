@@ -19,7 +19,7 @@ pub returns-then-b-eq32 : goal.returns-then-b-eq32
 returns-then-b-eq32 c =
     λ h.
     let k = c.loop-i.invariant.1 in
-    let one = stands-more _ _ _ _ k (omega arith) c.if-a-lt33.false (ltb-false _ _ c.if-a-gt126.false-raw) in
+    let one = stands-more _ _ _ _ k (omega arith) c.if-a-lt33.false c.if-a-gt126.false in
     (worded _ _ _ _ one (omega arith) h c.if-b-eq32.true).0
 
 pub returns-else-b-eq32 : goal.returns-else-b-eq32
@@ -28,7 +28,7 @@ returns-else-b-eq32 c = λ h. absurd (omega arith)
 pub loop-i-preserved : goal.loop-i-preserved
 loop-i-preserved c =
     stands-two _ _ _ _ c.loop-i.invariant.1 (omega arith) c.if-a-lt33.false
-    (ltb-false _ _ c.if-a-gt126.false-raw) c.if-b-lt33.false (ltb-false _ _ c.if-b-gt126.false-raw)
+    c.if-a-gt126.false c.if-b-lt33.false c.if-b-gt126.false
 
 pub returns : goal.returns
 returns c = λ h. absurd (omega arith)

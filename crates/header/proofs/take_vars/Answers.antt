@@ -25,7 +25,7 @@ returns-then-not-placed c = rw c.so_far.ensures (passes_none _ _ _ _ _ _ c.requi
 
 pub loop-n-init : goal.loop-n-init
 loop-n-init c =
-    (good-valid _ _ (sym c.placed.ensures ∙ not-false _ c.if-not-placed.false-raw), refl, passes_none _ _ _ _ _ _ c.requires.0)
+    (good-valid _ _ (sym c.placed.ensures ∙ c.if-not-placed.false), refl, passes_none _ _ _ _ _ _ c.requires.0)
 
 pub parse_var-requires : goal.parse_var-requires
 parse_var-requires c = let v = c.loop-n.invariant.0 in record { at_in_bounds = v.within; input_len_bound = v.short }

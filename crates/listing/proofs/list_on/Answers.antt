@@ -29,10 +29,10 @@ read : (c : After-step_fast) (r : Step) → c.step_fast.result ≡ r
 read c r e = saw _ _ _ _ r c.step_fast.ensures e
 
 pub returns-then-not-placed : goal.returns-then-not-placed
-returns-then-not-placed c = record { answer = (rw c.answer.ensures (listed-refused _ _ _ _ _ _ _ _ _ (listed_start _ _ _ _ _) _ _ _ (bad-next _ _ (sym c.placed.ensures ∙ not-true _ c.if-not-placed.true-raw)))).0; table = (rw c.answer.ensures (listed-refused _ _ _ _ _ _ _ _ _ (listed_start _ _ _ _ _) _ _ _ (bad-next _ _ (sym c.placed.ensures ∙ not-true _ c.if-not-placed.true-raw)))).1 }
+returns-then-not-placed c = record { answer = (rw c.answer.ensures (listed-refused _ _ _ _ _ _ _ _ _ (listed_start _ _ _ _ _) _ _ _ (bad-next _ _ (sym c.placed.ensures ∙ c.if-not-placed.true)))).0; table = (rw c.answer.ensures (listed-refused _ _ _ _ _ _ _ _ _ (listed_start _ _ _ _ _) _ _ _ (bad-next _ _ (sym c.placed.ensures ∙ c.if-not-placed.true)))).1 }
 
 pub loop-d-init : goal.loop-d-init
-loop-d-init c = (good-valid _ _ (sym c.placed.ensures ∙ not-false _ c.if-not-placed.false-raw), listed_start _ _ _ _ _)
+loop-d-init c = (good-valid _ _ (sym c.placed.ensures ∙ c.if-not-placed.false), listed_start _ _ _ _ _)
 
 pub fast_run-ran-requires : goal.fast_run-ran-requires
 fast_run-ran-requires c = c.loop-d.invariant.0

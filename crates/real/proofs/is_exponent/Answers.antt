@@ -17,7 +17,7 @@ returns-then-s-eq0 c = exponent-none _ c.if-s-eq0.true
 pub returns-then-b-ne69 : goal.returns-then-b-ne69
 returns-then-b-ne69 c =
     exponent-bad _ c.if-s-eq0.false
-    (has-neither 101 69 _ c.if-b-ne101.true (eqb-false _ 69 (not-true _ c.if-b-ne69.true-raw)))
+    (has-neither 101 69 _ c.if-b-ne101.true (c.if-b-ne69.true))
 
 -- what stands behind the `e` decides
 behind : (c : After-unsigned-rest)

@@ -21,7 +21,7 @@ use Rattle.records.proofs.read.Goals.{After-fast_run-ran, After-step_fast, Else-
 good : (c : Else-not-placed) →
     let a = c.args in
     is_good a.input.now a.c ≡ true
-good c = sym c.placed.ensures ∙ not-false _ c.if-not-placed.false-raw
+good c = sym c.placed.ensures ∙ c.if-not-placed.false
 
 abbrev input_of : After-fast_run-ran → List ℕ
 input_of c = c.args.input.now
@@ -55,7 +55,7 @@ more : (c : After-step_fast) (d : Cursor) → Told c (Step.Read d)
 more c d q = ran-read _ _ _ _ _ _ (come (run_of c)) d q _ c.step_fast.ensures.2 c.if-cap-n.false
 
 pub returns-then-not-placed : goal.returns-then-not-placed
-returns-then-not-placed c = record { answer = (rw c.answer.ensures (read-bad _ _ _ (sym c.placed.ensures ∙ not-true _ c.if-not-placed.true-raw))).0; table = (rw c.answer.ensures (read-bad _ _ _ (sym c.placed.ensures ∙ not-true _ c.if-not-placed.true-raw))).1 }
+returns-then-not-placed c = record { answer = (rw c.answer.ensures (read-bad _ _ _ (sym c.placed.ensures ∙ c.if-not-placed.true))).0; table = (rw c.answer.ensures (read-bad _ _ _ (sym c.placed.ensures ∙ c.if-not-placed.true))).1 }
 
 pub loop-n-init : goal.loop-n-init
 loop-n-init c = ran-start _ _ _ _ (good-valid _ _ (good (goal.at.loop-n-init c).Else-not-placed)) (omega arith)

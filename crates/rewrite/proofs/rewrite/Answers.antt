@@ -16,10 +16,10 @@ inside : (c : In-Hit) → c.in-Hit.end < length c.args.input.now
 inside c = rw c.in-Hit.is at c.step_fast.ensures.1
 
 pub returns-then-not-placed : goal.returns-then-not-placed
-returns-then-not-placed c = record { answer = (rw c.answer.ensures (stops-before _ _ _ _ (sym c.placed.ensures ∙ not-true _ c.if-not-placed.true-raw))).0; bytes = (rw c.answer.ensures (stops-before _ _ _ _ (sym c.placed.ensures ∙ not-true _ c.if-not-placed.true-raw))).1 }
+returns-then-not-placed c = record { answer = (rw c.answer.ensures (stops-before _ _ _ _ (sym c.placed.ensures ∙ c.if-not-placed.true))).0; bytes = (rw c.answer.ensures (stops-before _ _ _ _ (sym c.placed.ensures ∙ c.if-not-placed.true))).1 }
 
 pub loop-end-init : goal.loop-end-init
-loop-end-init c = writes-none _ _ _ _ (good-valid _ _ (sym c.placed.ensures ∙ not-false _ c.if-not-placed.false-raw))
+loop-end-init c = writes-none _ _ _ _ (good-valid _ _ (sym c.placed.ensures ∙ c.if-not-placed.false))
 
 pub slice_bounds-step_fast-count : goal.slice_bounds-step_fast-count
 slice_bounds-step_fast-count c = omega (arith, c.loop-end.invariant.room, writes-length _ _ _ _ _ _ _ _ c.loop-end.invariant)

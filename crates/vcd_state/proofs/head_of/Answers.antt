@@ -12,24 +12,24 @@ returns-then-w-ne-HEAD c = rw (ne_eqb _ _ c.if-w-ne-HEAD.true)
 
 pub returns-then-not-is_kept : goal.returns-then-not-is_kept
 unfolding head_of
-returns-then-not-is_kept c = rw (eq-eqb _ _ c.if-w-ne-HEAD.false, sym c.is_kept.ensures ∙ not-true _ c.if-not-is_kept.true-raw)
+returns-then-not-is_kept c = rw (eq-eqb _ _ c.if-w-ne-HEAD.false, sym c.is_kept.ensures ∙ c.if-not-is_kept.true)
 
 pub returns-then-not-is_kept-2 : goal.returns-then-not-is_kept-2
 unfolding head_of
-returns-then-not-is_kept-2 c = rw (eq-eqb _ _ c.if-w-ne-HEAD.false, sym c.is_kept.ensures ∙ not-false _ c.if-not-is_kept.false-raw, sym c.is_kept-2.ensures ∙ not-true _ c.if-not-is_kept-2.true-raw)
+returns-then-not-is_kept-2 c = rw (eq-eqb _ _ c.if-w-ne-HEAD.false, sym c.is_kept.ensures ∙ c.if-not-is_kept.false, sym c.is_kept-2.ensures ∙ c.if-not-is_kept-2.true)
 
 pub returns-then-not-is_scale : goal.returns-then-not-is_scale
 unfolding head_of
 returns-then-not-is_scale c =
     rw (
       eq-eqb _ _ c.if-w-ne-HEAD.false,
-      sym c.is_kept.ensures ∙ not-false _ c.if-not-is_kept.false-raw,
-      sym c.is_kept-2.ensures ∙ not-false _ c.if-not-is_kept-2.false-raw,
-      sym c.is_scale.ensures ∙ not-true _ c.if-not-is_scale.true-raw,
+      sym c.is_kept.ensures ∙ c.if-not-is_kept.false,
+      sym c.is_kept-2.ensures ∙ c.if-not-is_kept-2.false,
+      sym c.is_scale.ensures ∙ c.if-not-is_scale.true,
     )
 
 pub scale_of-timescale-requires : goal.scale_of-timescale-requires
-scale_of-timescale-requires c = scale_small _ _ _ (sym c.is_scale.ensures ∙ not-false _ c.if-not-is_scale.false-raw)
+scale_of-timescale-requires c = scale_small _ _ _ (sym c.is_scale.ensures ∙ c.if-not-is_scale.false)
 
 pub returns : goal.returns
 unfolding head_of
@@ -39,7 +39,7 @@ returns c =
       c.text_of-version.ensures,
       c.text_of-date.ensures,
       eq-eqb _ _ c.if-w-ne-HEAD.false,
-      sym c.is_kept.ensures ∙ not-false _ c.if-not-is_kept.false-raw,
-      sym c.is_kept-2.ensures ∙ not-false _ c.if-not-is_kept-2.false-raw,
-      sym c.is_scale.ensures ∙ not-false _ c.if-not-is_scale.false-raw,
+      sym c.is_kept.ensures ∙ c.if-not-is_kept.false,
+      sym c.is_kept-2.ensures ∙ c.if-not-is_kept-2.false,
+      sym c.is_scale.ensures ∙ c.if-not-is_scale.false,
     )

@@ -15,10 +15,10 @@ returns-then-is_plain c =
 
 pub returns-then-not-no_blank : goal.returns-then-not-no_blank
 returns-then-not-no_blank c =
-    let none = sym c.no_blank.ensures ∙ not-true _ c.if-not-no_blank.true-raw in
+    let none = sym c.no_blank.ensures ∙ c.if-not-no_blank.true in
     rw (name-some c.args.s.now c.if-s-eq0.false, none)
 
 pub returns : goal.returns
 returns c =
-    let all = sym c.no_blank.ensures ∙ not-false _ c.if-not-no_blank.false-raw in
+    let all = sym c.no_blank.ensures ∙ c.if-not-no_blank.false in
     rw (name-some c.args.s.now c.if-s-eq0.false, all) c.valid.ensures

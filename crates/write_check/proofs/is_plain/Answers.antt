@@ -25,7 +25,7 @@ loop-i-preserved c =
     let l = c.loop-i in (
       l.invariant.0,
       omega (arith, c.loop-i-test.true),
-      plain-join c.args.s.now _ _ _ _ l.invariant.2 (c.plain_eight.ensures (not-false _ c.if-not-plain_eight.false-raw)) (omega arith),
+      plain-join c.args.s.now _ _ _ _ l.invariant.2 (c.plain_eight.ensures (c.if-not-plain_eight.false)) (omega arith),
     )
 
 pub plain_eight-requires-2 : goal.plain_eight-requires-2

@@ -16,7 +16,7 @@ returns-then-not-plain c = λ e. absurd (false≢true e)
 pub loop-i-preserved : goal.loop-i-preserved
 loop-i-preserved c =
     passed-more _ _ c.loop-i.invariant c.loop-i-test.true
-    (c.plain.ensures (not-false _ c.if-not-plain.false-raw))
+    (c.plain.ensures (c.if-not-plain.false))
 
 pub returns : goal.returns
 returns c = λ e. passed-all _ _ c.loop-i.invariant c.loop-i-test.false

@@ -15,7 +15,7 @@ returns-then-misplaced c = bad-place _ _ _ _ _ _ (sym c.misplaced.ensures ∙ c.
 
 pub returns-then-not-good_table : goal.returns-then-not-good_table
 returns-then-not-good_table c =
-    bad-table _ _ _ _ _ _ (sym c.misplaced.ensures ∙ c.if-misplaced.false) (sym c.good_table.ensures ∙ not-true _ c.if-not-good_table.true-raw)
+    bad-table _ _ _ _ _ _ (sym c.misplaced.ensures ∙ c.if-misplaced.false) (sym c.good_table.ensures ∙ c.if-not-good_table.true)
 
 pub write_kept-requires : goal.write_kept-requires
 write_kept-requires c =
@@ -28,18 +28,18 @@ write_rows-requires c =
     let a = c.args in
     let x = inside a.src.now a.h a.rows.now a.count (sym c.misplaced.ensures ∙ c.if-misplaced.false) in
     let y = rw c.in-Through.is at c.write-Kept.ensures in
-    (y.1, x.2, sym c.good_table.ensures ∙ not-false _ c.if-not-good_table.false-raw)
+    (y.1, x.2, sym c.good_table.ensures ∙ c.if-not-good_table.false)
 
 pub returns-in-Through : goal.returns-in-Through
 returns-in-Through c =
     let a = c.args in
     let y = rw c.in-Through.is at c.write-Kept.ensures in
-    let q = call-pours a.w a.src.now a.h a.rows.now a.count a.out.now (sym c.misplaced.ensures ∙ c.if-misplaced.false) (sym c.good_table.ensures ∙ not-false _ c.if-not-good_table.false-raw) in
+    let q = call-pours a.w a.src.now a.h a.rows.now a.count a.out.now (sym c.misplaced.ensures ∙ c.if-misplaced.false) (sym c.good_table.ensures ∙ c.if-not-good_table.false) in
     does-too (q ∙ y.2 (row_meanings a.src.now 0 [] (rows_of a.rows.now a.count))) c.write_rows.ensures
 
 pub returns-in-Refused : goal.returns-in-Refused
 returns-in-Refused c =
     let a = c.args in
     let y = rw c.in-Refused.is at c.write-Kept.ensures in
-    let q = call-pours a.w a.src.now a.h a.rows.now a.count a.out.now (sym c.misplaced.ensures ∙ c.if-misplaced.false) (sym c.good_table.ensures ∙ not-false _ c.if-not-good_table.false-raw) in
+    let q = call-pours a.w a.src.now a.h a.rows.now a.count a.out.now (sym c.misplaced.ensures ∙ c.if-misplaced.false) (sym c.good_table.ensures ∙ c.if-not-good_table.false) in
     of-outcome (stop _ _ _ _) (q ∙ y (row_meanings a.src.now 0 [] (rows_of a.rows.now a.count)))

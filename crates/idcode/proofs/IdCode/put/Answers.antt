@@ -10,6 +10,7 @@ use Rattle.idcode.specs.Id.{id_text}
 use Rattle.idcode.proofs.Laws.{text-length}
 use Rattle.idcode.proofs.Spelling.{Spelling, spell-start, inside, spell-more, copy-next, copied}
 use Rattle.idcode.proofs.IdCode.put.Goals as goal
+use Rattle.idcode.proofs.IdCode.put.Goals.{else-out-lt10-via-then-out-lt10+else-out-len, else-out-lt10-via-else-out-lt10}
 
 pub returns-then-out-len : goal.returns-then-out-len
 returns-then-out-len c = no_room (id_text c.args.self.0) _ (omega (arith, ltb-true, c.len.ensures))
@@ -19,7 +20,7 @@ loop-rest-init c =
     let x = c.args in
     let short = text-length x.self.0 (omega arith) in
     let room : length (id_text x.self.0) ≤ length x.out.now =
-    ⊎_elim (λ w. omega (arith, ltb-false, w.2.left, w.1.ensures)) (λ w. omega (arith, w.left)) c.else-out-lt10.branch in
+    elim c.else-out-lt10.branch [ else-out-lt10-via-then-out-lt10+else-out-len w ↦ omega (arith, w.len.ensures) | else-out-lt10-via-else-out-lt10 w ↦ omega arith ] in
     (spell-start x.self.0 (omega arith), copy_start _ _ room)
 
 pub bounds-out-n : goal.bounds-out-n

@@ -9,11 +9,11 @@ use Rattle.job.proofs.listed.take_turns.Goals as goal
 
 pub loop-rows-smaller : goal.loop-rows-smaller
 loop-rows-smaller c =
-    (turn_on c.args.input.now _ _ _ _ c.loop-rows.invariant.0 c.is_finished.ensures (not-true _ c.loop-rows-test.true-raw) c.take_turn-t.ensures).1
+    (turn_on c.args.input.now _ _ _ _ c.loop-rows.invariant.0 c.is_finished.ensures (c.loop-rows-test.true) c.take_turn-t.ensures).1
 
 pub loop-rows-preserved : goal.loop-rows-preserved
 loop-rows-preserved c = (
-  (turn_on c.args.input.now _ _ _ _ c.loop-rows.invariant.0 c.is_finished.ensures (not-true _ c.loop-rows-test.true-raw) c.take_turn-t.ensures).0,
+  (turn_on c.args.input.now _ _ _ _ c.loop-rows.invariant.0 c.is_finished.ensures (c.loop-rows-test.true) c.take_turn-t.ensures).0,
   search rules,
   search rules,
   search rules,

@@ -9,4 +9,4 @@ use Rattle.job.proofs.rewriting.take_turns.Goals as goal
 pub loop-rows-smaller : goal.loop-rows-smaller
 loop-rows-smaller c =
     let l = c.loop-rows in
-    turn_on c.args.input.now l.rows l.out l.state c.is_finished.ensures (not-true _ c.loop-rows-test.true-raw) c.take_turn-t.ensures
+    turn_on c.args.input.now l.rows l.out l.state c.is_finished.ensures (c.loop-rows-test.true) c.take_turn-t.ensures

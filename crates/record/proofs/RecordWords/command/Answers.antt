@@ -33,11 +33,11 @@ returns-then-not-is_used c =
       not-false (eqb a.first 0) c.if-self-ne0-2.false-raw,
       not-false (eqb a.second 0) c.if-self-ne0-3.false-raw,
       ← c.is_used.ensures,
-      not-true c.is_used.result c.if-not-is_used.true-raw,
+      c.if-not-is_used.true,
     )
 
 pub made-requires : goal.made-requires
-made-requires c = (used _ (sym c.is_used.ensures ∙ not-false _ c.if-not-is_used.false-raw)).number
+made-requires c = (used _ (sym c.is_used.ensures ∙ c.if-not-is_used.false)).number
 
 pub returns : goal.returns
 unfolding command_of all_zero
@@ -49,6 +49,6 @@ returns c =
       not-false (eqb a.first 0) c.if-self-ne0-2.false-raw,
       not-false (eqb a.second 0) c.if-self-ne0-3.false-raw,
       ← c.is_used.ensures,
-      not-false c.is_used.result c.if-not-is_used.false-raw,
+      c.if-not-is_used.false,
     )
     (ap Recorded.Is c.made.ensures)

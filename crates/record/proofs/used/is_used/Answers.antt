@@ -50,7 +50,7 @@ returns-then-not-has_code c =
       le-leb _ _ c.if-amount_most-w.false,
       ne_eqb _ 0 c.if-w-ne0.true,
       ← c.has_code.ensures,
-      not-true c.has_code.result c.if-not-has_code.true-raw,
+      c.if-not-has_code.true,
     )
 
 pub returns-then-w-eq0-2 : goal.returns-then-w-eq0-2

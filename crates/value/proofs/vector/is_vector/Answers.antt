@@ -13,12 +13,12 @@ loop-i-init c = (search rules, refl)
 
 pub returns-then-not-is_value : goal.returns-then-not-is_value
 returns-then-not-is_value c =
-    let no = sym c.is_value.ensures ∙ not-true _ c.if-not-is_value.true-raw in
+    let no = sym c.is_value.ensures ∙ c.if-not-is_value.true in
     sym (c.loop-i.invariant.1 ∙ values-stop _ _ c.loop-i-test.true no)
 
 pub loop-i-preserved : goal.loop-i-preserved
 loop-i-preserved c =
-    let yes = sym c.is_value.ensures ∙ not-false _ c.if-not-is_value.false-raw in
+    let yes = sym c.is_value.ensures ∙ c.if-not-is_value.false in
     (search rules, c.loop-i.invariant.1 ∙ sym (values-more _ _ c.loop-i-test.true yes))
 
 pub returns : goal.returns

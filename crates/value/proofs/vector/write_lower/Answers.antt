@@ -9,13 +9,13 @@ use Rattle.value.proofs.Vectors.{Lowered, lower-invalid, lower-no-room, lower-st
 use Rattle.value.proofs.vector.write_lower.Goals as goal
 
 pub returns-then-not-is_vector : goal.returns-then-not-is_vector
-returns-then-not-is_vector c = lower-invalid _ _ (sym c.is_vector.ensures ∙ not-true _ c.if-not-is_vector.true-raw)
+returns-then-not-is_vector c = lower-invalid _ _ (sym c.is_vector.ensures ∙ c.if-not-is_vector.true)
 
 pub returns-then-out-s : goal.returns-then-out-s
-returns-then-out-s c = lower-no-room _ _ (sym c.is_vector.ensures ∙ not-false _ c.if-not-is_vector.false-raw) c.if-out-s.true
+returns-then-out-s c = lower-no-room _ _ (sym c.is_vector.ensures ∙ c.if-not-is_vector.false) c.if-out-s.true
 
 pub loop-i-init : goal.loop-i-init
-loop-i-init c = lower-start _ _ (sym c.is_vector.ensures ∙ not-false _ c.if-not-is_vector.false-raw) c.if-out-s.false
+loop-i-init c = lower-start _ _ (sym c.is_vector.ensures ∙ c.if-not-is_vector.false) c.if-out-s.false
 
 pub bounds-out-i : goal.bounds-out-i
 bounds-out-i c = omega (arith, lower-length _ _ _ _ c.loop-i.invariant, c.if-out-s.false)
