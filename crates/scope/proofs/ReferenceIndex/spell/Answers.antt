@@ -1,4 +1,5 @@
 -- Goals of `scope::ReferenceIndex::spell` that the search leaves.
+use native.Mathlib.Omega.{arith}
 use mir.Syntax.{w32}
 use mir.ValLaws.{to_z-of_z}
 use borrow.Author.Rules.{rules}
@@ -9,15 +10,11 @@ returns-in-None c = rw c.in-None.is c.spell.ensures
 
 pub returns-in-BitSelect : goal.returns-in-BitSelect
 returns-in-BitSelect c =
-    let self = c.self-1.given in
-    let fits = c.in-BitSelect.known_told-1-own.given in
-    let n = to_z-of_z w32 self.0.0 (record { sfits = fits.0.1 }) in
-    rw self.1 (rw n at c.spell_bit.ensures)
+    let n = to_z-of_z w32 c.in-BitSelect.n (record { sfits = omega arith }) in
+    rw c.in-BitSelect.is (rw n at c.spell_bit.ensures)
 
 pub returns-in-Range : goal.returns-in-Range
 returns-in-Range c =
-    let self = c.self-in-Range-1.given in
-    let fits = c.in-Range.known_told-in-Range-1-own.given in
-    let msb = to_z-of_z w32 self.0.0 (record { sfits = fits.0.1 }) in
-    let lsb = to_z-of_z w32 self.0.1.0 (record { sfits = fits.1.0.1 }) in
-    rw self.1 (rw (msb, lsb) at c.spell_range.ensures)
+    let msb = to_z-of_z w32 c.in-Range.msb (record { sfits = omega arith }) in
+    let lsb = to_z-of_z w32 c.in-Range.lsb (record { sfits = omega arith }) in
+    rw c.in-Range.is (rw (msb, lsb) at c.spell_range.ensures)
