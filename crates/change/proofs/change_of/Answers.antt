@@ -22,7 +22,7 @@ unfolding change_of
 returns c =
     rw (
       c.kind_of.ensures,
-      c.Since-of.ensures,
+      c.since_of.ensures,
       sym c.is_since.ensures ∙ c.if-not-is_since.false,
       le-leb _ _ c.if-k-lt1.false,
       le-leb _ _ c.if-k-gt4.false,

@@ -15,4 +15,4 @@ returns-then-not-is_since c = rw (eq-eqb _ _ c.if-w-ne-SINCE.false, sym c.is_sin
 
 pub returns : goal.returns
 unfolding since_in
-returns c = rw (c.Since-of.ensures, eq-eqb _ _ c.if-w-ne-SINCE.false, sym c.is_since.ensures ∙ c.if-not-is_since.false)
+returns c = rw (c.since_of.ensures, eq-eqb _ _ c.if-w-ne-SINCE.false, sym c.is_since.ensures ∙ c.if-not-is_since.false)

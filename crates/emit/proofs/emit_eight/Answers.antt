@@ -31,7 +31,7 @@ put_pair-requires-4 c = (omega (arith, first (goal.at.put_pair-requires-4 c).Aft
 long : (c : After-slice_known-5-1) →
     let x = c.args in
     length c.put_pair-4.new.0 ≡ length x.out.now
-long c = omega (arith, first c.«After-slice_known-1»)
+long c = omega (arith, first c.before.before.before.before.before.before.before.before.before.before.before.before.before.before.before.before)
 
 pub bounds-out-9 : goal.bounds-out-9
 bounds-out-9 c = omega (arith, long (goal.at.bounds-out-9 c).After-slice_known-5-1)

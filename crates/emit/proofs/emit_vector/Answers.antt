@@ -52,10 +52,9 @@ shape_of-out-in-Count c = simp length-set (room (goal.at.shape_of-out-in-Count c
 pub returns-in-Count : goal.returns-in-Count
 returns-in-Count c =
     let x = c.args in
-    let n = c.n-1.given in
-    let m : ℕ = length x.v.now + 2 + n.0.0 in
+    let m : ℕ = length x.v.now + 2 + c.in-Count.n in
     rw (append_assoc (map lower x.v.now) (bytes " ") (id_text x.id.0 ++ bytes "\n")) at
-    (framed (values x.v.now) (id_text x.id.0) x.out.now _ (size x.v.now) (omega arith) c.put.ensures n.0.0 m n.1 refl
+    (framed (values x.v.now) (id_text x.id.0) x.out.now _ (size x.v.now) (omega arith) c.put.ensures c.in-Count.n m c.in-Count.is refl
     (ap (λ (l : List ℕ). set l m 10) c.put_values.ensures))
 
 pub returns-in-NoRoom : goal.returns-in-NoRoom

@@ -24,19 +24,19 @@ pub returns-then-not-fits : goal.returns-then-not-fits
 returns-then-not-fits c =
     let x = c.args in
     let n = sum x.kind.now x.width.now x.id.now x.name.now x.index.now in
-    let h : length x.out.now - 14 < n = fits-no n _ c.fits2.ensures c.if-not-fits.true-raw in
+    let h : length x.out.now - 14 < n = fits-no n _ c.fits.ensures c.if-not-fits.true-raw in
     no_room (concat (definition x.kind.now x.width.now x.id.now x.name.now x.index.now)) x.out.now (omega (arith, total-is (definition x.kind.now x.width.now x.id.now x.name.now x.index.now) 0))
 
 pub put_words-requires : goal.put_words-requires
 put_words-requires c =
     let x = c.args in
     let n = sum x.kind.now x.width.now x.id.now x.name.now x.index.now in
-    let h : n ≤ length x.out.now - 14 = fits-yes n _ c.fits2.ensures c.if-not-fits.false-raw in
+    let h : n ≤ length x.out.now - 14 = fits-yes n _ c.fits.ensures c.if-not-fits.false-raw in
     omega arith
 
 pub returns : goal.returns
 returns c =
     let x = c.args in
     let n = sum x.kind.now x.width.now x.id.now x.name.now x.index.now in
-    let h : n ≤ length x.out.now - 14 = fits-yes n _ c.fits2.ensures c.if-not-fits.false-raw in
+    let h : n ≤ length x.out.now - 14 = fits-yes n _ c.fits.ensures c.if-not-fits.false-raw in
     placed (concat (definition x.kind.now x.width.now x.id.now x.name.now x.index.now)) x.out.now (omega (arith, total-is (definition x.kind.now x.width.now x.id.now x.name.now x.index.now) 0)) c.put_words.ensures

@@ -12,15 +12,13 @@ returns-in-None c = rw c.in-None.is c.spell.ensures
 
 pub returns-in-BitSelect : goal.returns-in-BitSelect
 returns-in-BitSelect c =
-    let x = c.x-1.given in
-    let f : SFits w32 x.0.0 = record { sfits = c.in-BitSelect.known_told-1-own.given.0.1 } in
-    rw x.1 (spaced-index (ReferenceIndex.BitSelect x.0.0) f _ (rw (to_z-of_z w32 x.0.0 f) at c.spell-in-BitSelect.ensures) c.spaced.ensures)
+    let f : SFits w32 c.in-BitSelect.n = record { sfits = c.in-BitSelect.known_told-1-own.given.0.1 } in
+    rw c.in-BitSelect.is (spaced-index (ReferenceIndex.BitSelect c.in-BitSelect.n) f _ (rw (to_z-of_z w32 c.in-BitSelect.n f) at c.spell-in-BitSelect.ensures) c.spaced.ensures)
 
 pub returns-in-Range : goal.returns-in-Range
 returns-in-Range c =
-    let x = c.x-in-Range-1.given in
-    let f : SFits w32 x.0.0 = record { sfits = c.in-Range.known_told-in-Range-1-own.given.0.1 } in
-    let g : SFits w32 x.0.1.0 = record { sfits = c.in-Range.known_told-in-Range-1-own.given.1.0.1 } in
-    rw x.1
-    (spaced-index (ReferenceIndex.Range x.0.0 x.0.1.0) (f, g) _
-    (rw (to_z-of_z w32 x.0.0 f, to_z-of_z w32 x.0.1.0 g) at c.spell-in-Range.ensures) c.spaced-in-Range.ensures)
+    let f : SFits w32 c.in-Range.msb = record { sfits = c.in-Range.known_told-in-Range-1-own.given.0.1 } in
+    let g : SFits w32 c.in-Range.lsb = record { sfits = c.in-Range.known_told-in-Range-1-own.given.1.0.1 } in
+    rw c.in-Range.is
+    (spaced-index (ReferenceIndex.Range c.in-Range.msb c.in-Range.lsb) (f, g) _
+    (rw (to_z-of_z w32 c.in-Range.msb f, to_z-of_z w32 c.in-Range.lsb g) at c.spell-in-Range.ensures) c.spaced-in-Range.ensures)

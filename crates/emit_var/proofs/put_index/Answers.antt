@@ -37,23 +37,23 @@ bit : (k : In-BitSelect) → let x = c.args in Bit c (bytes " [" ++ digits c) x.
 bit c = due _ _ _ refl (rw c.in-BitSelect.is at c.requires)
 
 abbrev b1 : After-put_byte-n → In-BitSelect
-b1 c = c.«In-BitSelect»
+b1 c = c.before.before
 
 bit-1 : (c : After-put_byte-n) → Bit (b1 c) (bytes "[" ++ digits (b1 c)) c.put_byte-n.result c.put_byte-n.new.0
 bit-1 c = more (bytes " ") _ (bit (b1 c)) c.put_byte-n.ensures
 
 abbrev b2 : After-put_byte-n-in-BitSelect → In-BitSelect
-b2 c = b1 c.«After-put_byte-n»
+b2 c = b1 c.before.before.before.before
 
 bit-2 : (c : After-put_byte-n-in-BitSelect) → Bit (b2 c) (digits (b2 c)) c.put_byte-n-in-BitSelect.result c.put_byte-n-in-BitSelect.new.0
-bit-2 c = more (bytes "[") _ (bit-1 c.«After-put_byte-n») c.put_byte-n-in-BitSelect.ensures
+bit-2 c = more (bytes "[") _ (bit-1 c.before.before.before.before) c.put_byte-n-in-BitSelect.ensures
 
 abbrev b3 : After-put_signed-n → In-BitSelect
-b3 c = b2 c.«After-put_byte-n-in-BitSelect»
+b3 c = b2 c.before.before.before.before
 
 bit-3 : (c : After-put_signed-n) → Bit (b3 c) (bytes "]") c.put_signed-n.result c.put_signed-n.new.0
 bit-3 c =
-    more (signed_of (one (b3 c))) (bytes "]") (bit-2 c.«After-put_byte-n-in-BitSelect») (rw (one-held (b3 c)) at c.put_signed-n.ensures)
+    more (signed_of (one (b3 c))) (bytes "]") (bit-2 c.before.before.before.before) (rw (one-held (b3 c)) at c.put_signed-n.ensures)
 
 pub put_signed-n-requires : goal.put_signed-n-requires
 put_signed-n-requires c =
@@ -95,36 +95,36 @@ range c =
     (rw c.in-Range.is at c.requires)
 
 abbrev r1 : After-put_byte-n-in-Range → In-Range
-r1 c = c.«In-Range»
+r1 c = c.before.before
 
 range-1 : (c : After-put_byte-n-in-Range) → Range (r1 c) (bytes "[" ++ pair (r1 c)) c.put_byte-n-in-Range.result c.put_byte-n-in-Range.new.0
 range-1 c = more (bytes " ") _ (range (r1 c)) c.put_byte-n-in-Range.ensures
 
 abbrev r2 : After-put_byte-n-in-Range-2 → In-Range
-r2 c = r1 c.«After-put_byte-n-in-Range»
+r2 c = r1 c.before.before.before.before
 
 range-2 : (c : After-put_byte-n-in-Range-2) → Range (r2 c) (pair (r2 c)) c.put_byte-n-in-Range-2.result c.put_byte-n-in-Range-2.new.0
-range-2 c = more (bytes "[") _ (range-1 c.«After-put_byte-n-in-Range») c.put_byte-n-in-Range-2.ensures
+range-2 c = more (bytes "[") _ (range-1 c.before.before.before.before) c.put_byte-n-in-Range-2.ensures
 
 abbrev r3 : After-put_signed-n-in-Range → In-Range
-r3 c = r2 c.«After-put_byte-n-in-Range-2»
+r3 c = r2 c.before.before.before.before
 
 range-3 : (c : After-put_signed-n-in-Range) → Range (r3 c) (bytes ":" ++ last (r3 c)) c.put_signed-n-in-Range.result c.put_signed-n-in-Range.new.0
 range-3 c =
-    more (signed_of (first (r3 c))) _ (range-2 c.«After-put_byte-n-in-Range-2») (rw (first-held (r3 c)) at c.put_signed-n-in-Range.ensures)
+    more (signed_of (first (r3 c))) _ (range-2 c.before.before.before.before) (rw (first-held (r3 c)) at c.put_signed-n-in-Range.ensures)
 
 abbrev r4 : After-put_byte-n-in-Range-3 → In-Range
-r4 c = r3 c.«After-put_signed-n-in-Range»
+r4 c = r3 c.before.before.before.before
 
 range-4 : (c : After-put_byte-n-in-Range-3) → Range (r4 c) (last (r4 c)) c.put_byte-n-in-Range-3.result c.put_byte-n-in-Range-3.new.0
-range-4 c = more (bytes ":") _ (range-3 c.«After-put_signed-n-in-Range») c.put_byte-n-in-Range-3.ensures
+range-4 c = more (bytes ":") _ (range-3 c.before.before.before.before) c.put_byte-n-in-Range-3.ensures
 
 abbrev r5 : After-put_signed-n-in-Range-2 → In-Range
-r5 c = r4 c.«After-put_byte-n-in-Range-3»
+r5 c = r4 c.before.before.before.before
 
 range-5 : (c : After-put_signed-n-in-Range-2) → Range (r5 c) (bytes "]") c.put_signed-n-in-Range-2.result c.put_signed-n-in-Range-2.new.0
 range-5 c =
-    more (signed_of (second (r5 c))) (bytes "]") (range-4 c.«After-put_byte-n-in-Range-3»)
+    more (signed_of (second (r5 c))) (bytes "]") (range-4 c.before.before.before.before)
     (rw (second-held (r5 c)) at c.put_signed-n-in-Range-2.ensures)
 
 pub put_signed-n-requires-in-Range : goal.put_signed-n-requires-in-Range

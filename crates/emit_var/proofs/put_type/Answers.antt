@@ -40,7 +40,7 @@ abbrev name : Start → List ℕ
 name c = bytes (var_name c.args.t)
 
 abbrev s1 : After-front → Start
-s1 c = c.«Start»
+s1 c = c.before.before.before.before.before.before.before
 
 abbrev Left : Start → List ℕ → ℕ → List ℕ → Type 0
 Left c = Due c.args.out.now c.args.at (name c ++ bytes " ")
@@ -54,8 +54,8 @@ whole c = due _ _ _ refl c.requires
 pub put-n-requires : goal.put-n-requires
 put-n-requires c = rw (kind (goal.at.put-n-requires c).After-front) (fits (name (s1 (goal.at.put-n-requires c).After-front)) (bytes " ") (whole (s1 (goal.at.put-n-requires c).After-front)))
 
-space : (c : After-put-n) → Left (s1 c.«After-front») (bytes " ") c.put-n.result c.put-n.new.0
-space c = more (name (s1 c.«After-front»)) (bytes " ") (whole (s1 c.«After-front»)) (rw (kind c.«After-front») at c.put-n.ensures)
+space : (c : After-put-n) → Left (s1 c.before) (bytes " ") c.put-n.result c.put-n.new.0
+space c = more (name (s1 c.before)) (bytes " ") (whole (s1 c.before)) (rw (kind c.before) at c.put-n.ensures)
 
 pub put_byte-requires : goal.put_byte-requires
 put_byte-requires c = (space (goal.at.put_byte-requires c).After-put-n).room

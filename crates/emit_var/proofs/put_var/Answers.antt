@@ -47,71 +47,71 @@ abbrev Left : Start → List ℕ → ℕ → List ℕ → Type 0
 Left c = Due c.args.out.now 0 (text c)
 
 abbrev s1 : After-put_four-n → Start
-s1 c = c.«Start»
+s1 c = c.before.before.before.before
 
 put_1 : (c : After-put_four-n) → Left (s1 c) (bytes " " ++ from-type (s1 c)) c.put_four-n.result c.put_four-n.new.0
 put_1 c =
     more (spoken Word.Var) _ (due (s1 c).args.out.now 0 (text (s1 c)) (parts (s1 c)) (omega (arith, (s1 c).requires))) c.put_four-n.ensures
 
 abbrev s2 : After-put_byte-n → Start
-s2 c = s1 c.«After-put_four-n»
+s2 c = s1 c.before.before.before.before
 
 put_2 : (c : After-put_byte-n) → Left (s2 c) (from-type (s2 c)) c.put_byte-n.result c.put_byte-n.new.0
-put_2 c = more (bytes " ") _ (put_1 c.«After-put_four-n») c.put_byte-n.ensures
+put_2 c = more (bytes " ") _ (put_1 c.before.before.before.before) c.put_byte-n.ensures
 
 abbrev s3 : After-put_type-n → Start
-s3 c = s2 c.«After-put_byte-n»
+s3 c = s2 c.before.before.before.before
 
 put_3 : (c : After-put_type-n) → Left (s3 c) (from-width (s3 c)) c.put_type-n.result c.put_type-n.new.0
-put_3 c = more (kind (s3 c)) _ (put_2 c.«After-put_byte-n») c.put_type-n.ensures
+put_3 c = more (kind (s3 c)) _ (put_2 c.before.before.before.before) c.put_type-n.ensures
 
 abbrev s4 : After-put_number-n → Start
-s4 c = s3 c.«After-put_type-n»
+s4 c = s3 c.before.before.before.before
 
 put_4 : (c : After-put_number-n) → Left (s4 c) (bytes " " ++ from-id (s4 c)) c.put_number-n.result c.put_number-n.new.0
-put_4 c = more (decimal_of (s4 c).args.width) _ (put_3 c.«After-put_type-n») c.put_number-n.ensures
+put_4 c = more (decimal_of (s4 c).args.width) _ (put_3 c.before.before.before.before) c.put_number-n.ensures
 
 abbrev s5 : After-put_byte-n-2 → Start
-s5 c = s4 c.«After-put_number-n»
+s5 c = s4 c.before.before.before.before
 
 put-5 : (c : After-put_byte-n-2) → Left (s5 c) (from-id (s5 c)) c.put_byte-n-2.result c.put_byte-n-2.new.0
-put-5 c = more (bytes " ") _ (put_4 c.«After-put_number-n») c.put_byte-n-2.ensures
+put-5 c = more (bytes " ") _ (put_4 c.before.before.before.before) c.put_byte-n-2.ensures
 
 abbrev s6 : After-put_id-n → Start
-s6 c = s5 c.«After-put_byte-n-2»
+s6 c = s5 c.before.before.before.before
 
 put-6 : (c : After-put_id-n) → Left (s6 c) (bytes " " ++ from-name (s6 c)) c.put_id-n.result c.put_id-n.new.0
-put-6 c = more (id_text (s6 c).args.id.0) _ (put-5 c.«After-put_byte-n-2») c.put_id-n.ensures
+put-6 c = more (id_text (s6 c).args.id.0) _ (put-5 c.before.before.before.before) c.put_id-n.ensures
 
 abbrev s7 : After-put_byte-n-3 → Start
-s7 c = s6 c.«After-put_id-n»
+s7 c = s6 c.before.before.before.before
 
 put-7 : (c : After-put_byte-n-3) → Left (s7 c) (from-name (s7 c)) c.put_byte-n-3.result c.put_byte-n-3.new.0
-put-7 c = more (bytes " ") _ (put-6 c.«After-put_id-n») c.put_byte-n-3.ensures
+put-7 c = more (bytes " ") _ (put-6 c.before.before.before.before) c.put_byte-n-3.ensures
 
 abbrev s8 : After-put-n → Start
-s8 c = s7 c.«After-put_byte-n-3»
+s8 c = s7 c.before.before.before.before
 
 put-8 : (c : After-put-n) → Left (s8 c) (from-index (s8 c)) c.put-n.result c.put-n.new.0
-put-8 c = more (s8 c).args.name.now _ (put-7 c.«After-put_byte-n-3») c.put-n.ensures
+put-8 c = more (s8 c).args.name.now _ (put-7 c.before.before.before.before) c.put-n.ensures
 
 abbrev s9 : After-put_index-n → Start
-s9 c = s8 c.«After-put-n»
+s9 c = s8 c.before.before.before.before
 
 put-9 : (c : After-put_index-n) → Left (s9 c) (bytes " " ++ (end_mark ++ bytes "\n")) c.put_index-n.result c.put_index-n.new.0
-put-9 c = more (indexed (s9 c).args.x) _ (put-8 c.«After-put-n») c.put_index-n.ensures
+put-9 c = more (indexed (s9 c).args.x) _ (put-8 c.before.before.before.before) c.put_index-n.ensures
 
 abbrev s10 : After-put_byte-n-4 → Start
-s10 c = s9 c.«After-put_index-n»
+s10 c = s9 c.before.before.before.before
 
 put-10 : (c : After-put_byte-n-4) → Left (s10 c) (end_mark ++ bytes "\n") c.put_byte-n-4.result c.put_byte-n-4.new.0
-put-10 c = more (bytes " ") _ (put-9 c.«After-put_index-n») c.put_byte-n-4.ensures
+put-10 c = more (bytes " ") _ (put-9 c.before.before.before.before) c.put_byte-n-4.ensures
 
 abbrev s11 : After-put_four-n-2 → Start
-s11 c = s10 c.«After-put_byte-n-4»
+s11 c = s10 c.before.before.before.before
 
 put-11 : (c : After-put_four-n-2) → Left (s11 c) (bytes "\n") c.put_four-n-2.result c.put_four-n-2.new.0
-put-11 c = more end_mark _ (put-10 c.«After-put_byte-n-4») c.put_four-n-2.ensures
+put-11 c = more end_mark _ (put-10 c.before.before.before.before) c.put_four-n-2.ensures
 
 pub returns : goal.returns
 returns c = (put-11 (goal.at.returns c).After-put_four-n-2).done c.put_byte.ensures

@@ -35,7 +35,7 @@ abbrev Left : Start → List ℕ → ℕ → List ℕ → Type 0
 Left c = Due c.args.out.now 0 (concat (all c))
 
 abbrev s1 : After-put_five-n → Start
-s1 c = c.«After-shared_slice_known-3-1»
+s1 c = c.before.before.before.before.before.before.before.before.before.before.before.before
 
 put_1 : (c : After-put_five-n) → Left (s1 c) (concat (second (s1 c)) ++ concat (third (s1 c))) c.put_five-n.result c.put_five-n.new.0
 put_1 c =
@@ -44,10 +44,10 @@ put_1 c =
     c.put_five-n.ensures
 
 abbrev s2 : After-put_five-n-2 → Start
-s2 c = s1 c.«After-slice_known-2-1»
+s2 c = s1 c.before.before.before.before.before.before
 
 put_2 : (c : After-put_five-n-2) → Left (s2 c) (concat (third (s2 c))) c.put_five-n-2.result c.put_five-n-2.new.0
-put_2 c = more (concat (second (s2 c))) _ (put_1 c.«After-slice_known-2-1») c.put_five-n-2.ensures
+put_2 c = more (concat (second (s2 c))) _ (put_1 c.before.before.before.before.before.before) c.put_five-n-2.ensures
 
 pub put_five-n-requires-2 : goal.put_five-n-requires-2
 put_five-n-requires-2 c =

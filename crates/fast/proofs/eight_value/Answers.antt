@@ -6,7 +6,7 @@ use Rattle.fast.proofs.eight_value.Goals.{After-wide-8, Start}
 
 -- what the eight bytes make in all
 abbrev start : After-wide-8 → Start
-start c = c.«Start»
+start c = c.before.before.before.before.before.before.before.before.before.before.before.before.before.before.before.before.before
 
 abbrev total : After-wide-8 → ℕ
 total c =

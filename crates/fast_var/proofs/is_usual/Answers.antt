@@ -8,7 +8,7 @@ use Rattle.fast_var.proofs.is_usual.Goals.{Joined-wire, Start}
 abbrev wire : Start → Bool
 wire c = odd c.args.input.now c.args.at
 
-wanted : (c : Joined-wire) → c.if-wire.want ≡ cond (wire c.«Start») 1701996919 543647090
+wanted : (c : Joined-wire) → c.if-wire.want ≡ cond (wire c.before.before.before.before) 1701996919 543647090
 wanted c = ⊎_elim (λ w. rw (w.0.taken, w.1)) (λ w. rw (w.0.left, w.1)) c.if-wire.branch
 
 -- there are bytes enough for either

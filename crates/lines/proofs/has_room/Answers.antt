@@ -14,4 +14,4 @@ pub returns : goal.returns
 returns c =
     let x = c.args in
     let n = x.name + x.time + x.line + x.zeros + x.value in
-    c.fits2.ensures ∙ leb-same n (x.room - 4) (4 + n) x.room (λ h. omega arith) (λ h. omega arith)
+    c.fits.ensures ∙ leb-same n (x.room - 4) (4 + n) x.room (λ h. omega arith) (λ h. omega arith)

@@ -19,9 +19,8 @@ line-is : (c : After-front-digits) (kind : ChangeKind) {word : List ℕ} → c.i
     → Laid (change_line c.args.input.now c.args.name.now c.args.width c.args.change) c.args.out.now r left
 line-is c kind q w e =
     let x = c.args in
-    let g = c.change-1.given in
-    laid-change x.input.now x.name.now x.width g.1 (row-text (time_text g.0.0) c.time_text-t.ensures c.front-time.ensures)
-    (row-text (decimal_of g.0.1.0) c.decimal-l.ensures c.front-digits.ensures) c.part-value.ensures kind q w x.out.now e
+    laid-change x.input.now x.name.now x.width c.in-Is.is (row-text (time_text c.in-Is.since) c.time_text-t.ensures c.front-time.ensures)
+    (row-text (decimal_of c.in-Is.line) c.decimal-l.ensures c.front-digits.ensures) c.part-value.ensures kind q w x.out.now e
 
 pub returns-in-None : goal.returns-in-None
 returns-in-None c = rw c.in-None.is (laid-nothing c.args.out.now)

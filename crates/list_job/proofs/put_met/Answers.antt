@@ -11,4 +11,4 @@ returns-in-Nothing c =
 pub returns-in-Refused : goal.returns-in-Refused
 returns-in-Refused c =
     let x = c.args in
-    met-line x.met x.out.now c.in-Refused.is c.number.ensures c.counted.ensures c.Put-refused.ensures
+    met-line x.met x.out.now c.in-Refused.is c.number.ensures c.counted.ensures c.put_refused.ensures

@@ -19,7 +19,7 @@ is-good : (c : Then-placed) → is_good c.args.input.now c.args.c ≡ true
 is-good c = sym c.placed.ensures ∙ c.if-placed.true
 
 start-valid : (c : After-skip-from) → Valid c.args.input.now c.skip-from.result
-start-valid c = rw c.skip-from.ensures (skipped-valid _ _ (good-valid _ _ (is-good c.«Then-placed»)))
+start-valid c = rw c.skip-from.ensures (skipped-valid _ _ (good-valid _ _ (is-good c.before)))
 
 pub skip-from-requires : goal.skip-from-requires
 skip-from-requires c = good-valid _ _ (is-good (goal.at.skip-from-requires c).Then-placed)
@@ -31,7 +31,7 @@ pub returns-then-input-at : goal.returns-then-input-at
 unfolding next_from found
 returns-then-input-at c =
     let at-end : length c.args.input.now ≤ c.skip-from.result.place = omega arith in
-    rw (is-good (goal.at.returns-then-input-at c).Then-placed, ← c.skip-from.ensures, le-ltb _ _ at-end, c.End-read.ensures)
+    rw (is-good (goal.at.returns-then-input-at c).Then-placed, ← c.skip-from.ensures, le-ltb _ _ at-end, c.end_read.ensures)
 
 pub word_end_read-requires : goal.word_end_read-requires
 word_end_read-requires c = omega (arith, start-valid (goal.at.word_end_read-requires c).After-skip-from)

@@ -55,7 +55,7 @@ overflow_add-result c =
 -- with a point
 point : (c : After-is_exponent-2)
     → Both (ltb 0 (c.count_digits-whole.result + c.count_digits-part.result))
-    c.is_exponent-2.result (is_decimal (text c.«After-count_digits-part»))
+    c.is_exponent-2.result (is_decimal (text c.before.before))
 point c =
     rw (c.is_exponent-2.ensures, take_rest (behind c) _)
     (decimal-point _ _ c.count_digits-whole.ensures (behind c) _ (take_rest (text c) (from c))

@@ -28,10 +28,10 @@ small c e h = omega (arith, c.loop-at.invariant.ran.valid)
 abbrev Hit : After-parse_short → Fast → Type 0
 Hit c b = let p = c.loop-at.cur.place in Hits (input_of c) p b × Short p b
 
-time : (c : In-Time) → Hit c.«After-parse_short» (Time c.in-Time.t c.in-Time.end)
+time : (c : In-Time) → Hit c.before.before (Time c.in-Time.t c.in-Time.end)
 time c = rw c.in-Time.is at c.parse_short.ensures
 
-scalar : (c : In-Scalar) → Hit c.«After-parse_short» (Scalar c.in-Scalar.i c.in-Scalar.end)
+scalar : (c : In-Scalar) → Hit c.before.before (Scalar c.in-Scalar.i c.in-Scalar.end)
 scalar c = rw c.in-Scalar.is at c.parse_short.ensures
 
 pub loop-at-init : goal.loop-at-init

@@ -33,7 +33,7 @@ come : (c : After-fast_run-ran) → Comes c c.fast_run-ran.result.cursor c.fast_
 come c = ran-join _ _ _ _ _ _ _ c.loop-n.invariant _ _ _ c.fast_run-ran.ensures
 
 abbrev run_of : After-step_fast → After-fast_run-ran
-run_of c = c.«After-fast_run-ran»
+run_of c = c.before.before.before.before.before.before
 
 abbrev Told : After-step_fast → Step → Type 0
 Told c q = let s = input_of (run_of c) in let d = (run_of c).fast-run.result.cursor in Stepped (next_from s d) (as_slow s d q)
@@ -41,7 +41,7 @@ Told c q = let s = input_of (run_of c) in let d = (run_of c).fast-run.result.cur
 step : (c : After-step_fast) (q : Step) → c.step_fast.result ≡ q → Told c q
 step c q e = told _ _ _ _ q c.step_fast.ensures.0 e
 
-inside : (c : In-Hit) → c.in-Hit.end < length (input_of (run_of c.«After-step_fast»))
+inside : (c : In-Hit) → c.in-Hit.end < length (input_of (run_of c.before.before.before.before))
 inside c = rw c.in-Hit.is at c.step_fast.ensures.1
 
 -- a command was read: less is left, and one more is made

@@ -8,8 +8,8 @@ overflow_cast-result c = word_wide _ c.ranges.n
 pub overflow_add-result : goal.overflow_add-result
 overflow_add-result c = word_sum _ c.ranges.n c.if-n-lt0.true
 
-pub overflow_cast-result-2 : goal.overflow_cast-result-2
-overflow_cast-result-2 c = word_back _ c.ranges.n c.if-n-lt0.true
+pub overflow_cast-result-then-n-lt0 : goal.overflow_cast-result-then-n-lt0
+overflow_cast-result-then-n-lt0 c = word_back _ c.ranges.n c.if-n-lt0.true
 
 pub returns-then-n-lt0 : goal.returns-then-n-lt0
 returns-then-n-lt0 c = word_below _ c.ranges.n c.if-n-lt0.true

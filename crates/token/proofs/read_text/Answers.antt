@@ -17,7 +17,7 @@ sought : (c : After-find_end-found) → c.find_end-found.result ≡ first_end (r
 sought c = c.find_end-found.ensures ∙ ap first_end (take_rest c.args.input.now c.args.c.place)
 
 at_mark : (c : In-At) → Found.At c.in-At.len ≡ first_end (rest c.args.input.now c.args.c)
-at_mark c = sym c.in-At.is ∙ sought c.«After-find_end-found»
+at_mark c = sym c.in-At.is ∙ sought c.before.before.before
 
 room : (c : In-At) → c.args.c.place + c.in-At.len + 4 ≤ length c.args.input.now
 room c = (text-found _ _ c.requires _ (at_mark c)).0
@@ -41,5 +41,5 @@ returns-in-At c = rw c.read_over-next.ensures (text-found _ _ c.requires _ (at_m
 
 pub returns-in-Nothing : goal.returns-in-Nothing
 returns-in-Nothing c =
-    rw (c.End-read.ensures, c.read_over-end.ensures)
+    rw (c.end_read.ensures, c.read_over-end.ensures)
     (text-lost _ _ c.requires (sym c.in-Nothing.is ∙ sought (goal.at.returns-in-Nothing c).After-find_end-found))

@@ -11,7 +11,7 @@ unfolding command_call
 returns-then-words-ne-WORDS c = record { status = (rw (ne_eqb _ _ c.if-words-ne-WORDS.true) (refl, (refl, (refl, refl)))).0; writer = (rw (ne_eqb _ _ c.if-words-ne-WORDS.true) (refl, (refl, (refl, refl)))).1.0; out = (rw (ne_eqb _ _ c.if-words-ne-WORDS.true) (refl, (refl, (refl, refl)))).1.1.0; count = (rw (ne_eqb _ _ c.if-words-ne-WORDS.true) (refl, (refl, (refl, refl)))).1.1.1 }
 
 pub wrote-requires : goal.wrote-requires
-wrote-requires c = writer-three _ c.Writer-of.ensures c.in-Is.is
+wrote-requires c = writer-three _ c.writer_of.ensures c.in-Is.is
 
 pub returns-in-Is-record_at : goal.returns-in-Is-record_at
 unfolding command_call
@@ -19,28 +19,28 @@ returns-in-Is-record_at c =
     record {
       status = (rw (
         eq-eqb _ _ c.if-words-ne-WORDS.false,
-        sym c.Writer-of.ensures ∙ c.in-Is.is,
+        sym c.writer_of.ensures ∙ c.in-Is.is,
         sym c.record_at.ensures ∙ c.in-Is-record_at.is,
         ← c.command.ensures.answers,
       )
           (c.wrote.ensures.status, (c.wrote.ensures.writer, (c.command.ensures.leaves, c.wrote.ensures.count)))).0;
       writer = (rw (
         eq-eqb _ _ c.if-words-ne-WORDS.false,
-        sym c.Writer-of.ensures ∙ c.in-Is.is,
+        sym c.writer_of.ensures ∙ c.in-Is.is,
         sym c.record_at.ensures ∙ c.in-Is-record_at.is,
         ← c.command.ensures.answers,
       )
           (c.wrote.ensures.status, (c.wrote.ensures.writer, (c.command.ensures.leaves, c.wrote.ensures.count)))).1.0;
       out = (rw (
         eq-eqb _ _ c.if-words-ne-WORDS.false,
-        sym c.Writer-of.ensures ∙ c.in-Is.is,
+        sym c.writer_of.ensures ∙ c.in-Is.is,
         sym c.record_at.ensures ∙ c.in-Is-record_at.is,
         ← c.command.ensures.answers,
       )
           (c.wrote.ensures.status, (c.wrote.ensures.writer, (c.command.ensures.leaves, c.wrote.ensures.count)))).1.1.0;
       count = (rw (
         eq-eqb _ _ c.if-words-ne-WORDS.false,
-        sym c.Writer-of.ensures ∙ c.in-Is.is,
+        sym c.writer_of.ensures ∙ c.in-Is.is,
         sym c.record_at.ensures ∙ c.in-Is-record_at.is,
         ← c.command.ensures.answers,
       )
@@ -53,25 +53,25 @@ returns-in-None c =
     record {
       status = (rw (
         eq-eqb _ _ c.if-words-ne-WORDS.false,
-        sym c.Writer-of.ensures ∙ c.in-Is.is,
+        sym c.writer_of.ensures ∙ c.in-Is.is,
         sym c.record_at.ensures ∙ c.in-None.is,
       )
           (refl, (refl, (refl, refl)))).0;
       writer = (rw (
         eq-eqb _ _ c.if-words-ne-WORDS.false,
-        sym c.Writer-of.ensures ∙ c.in-Is.is,
+        sym c.writer_of.ensures ∙ c.in-Is.is,
         sym c.record_at.ensures ∙ c.in-None.is,
       )
           (refl, (refl, (refl, refl)))).1.0;
       out = (rw (
         eq-eqb _ _ c.if-words-ne-WORDS.false,
-        sym c.Writer-of.ensures ∙ c.in-Is.is,
+        sym c.writer_of.ensures ∙ c.in-Is.is,
         sym c.record_at.ensures ∙ c.in-None.is,
       )
           (refl, (refl, (refl, refl)))).1.1.0;
       count = (rw (
         eq-eqb _ _ c.if-words-ne-WORDS.false,
-        sym c.Writer-of.ensures ∙ c.in-Is.is,
+        sym c.writer_of.ensures ∙ c.in-Is.is,
         sym c.record_at.ensures ∙ c.in-None.is,
       )
           (refl, (refl, (refl, refl)))).1.1.1;
@@ -79,4 +79,4 @@ returns-in-None c =
 
 pub returns-in-Bad : goal.returns-in-Bad
 unfolding command_call
-returns-in-Bad c = record { status = (rw (eq-eqb _ _ c.if-words-ne-WORDS.false, sym c.Writer-of.ensures ∙ c.in-Bad.is) (refl, (refl, (refl, refl)))).0; writer = (rw (eq-eqb _ _ c.if-words-ne-WORDS.false, sym c.Writer-of.ensures ∙ c.in-Bad.is) (refl, (refl, (refl, refl)))).1.0; out = (rw (eq-eqb _ _ c.if-words-ne-WORDS.false, sym c.Writer-of.ensures ∙ c.in-Bad.is) (refl, (refl, (refl, refl)))).1.1.0; count = (rw (eq-eqb _ _ c.if-words-ne-WORDS.false, sym c.Writer-of.ensures ∙ c.in-Bad.is) (refl, (refl, (refl, refl)))).1.1.1 }
+returns-in-Bad c = record { status = (rw (eq-eqb _ _ c.if-words-ne-WORDS.false, sym c.writer_of.ensures ∙ c.in-Bad.is) (refl, (refl, (refl, refl)))).0; writer = (rw (eq-eqb _ _ c.if-words-ne-WORDS.false, sym c.writer_of.ensures ∙ c.in-Bad.is) (refl, (refl, (refl, refl)))).1.0; out = (rw (eq-eqb _ _ c.if-words-ne-WORDS.false, sym c.writer_of.ensures ∙ c.in-Bad.is) (refl, (refl, (refl, refl)))).1.1.0; count = (rw (eq-eqb _ _ c.if-words-ne-WORDS.false, sym c.writer_of.ensures ∙ c.in-Bad.is) (refl, (refl, (refl, refl)))).1.1.1 }

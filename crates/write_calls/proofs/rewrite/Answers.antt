@@ -9,7 +9,7 @@ pub put_cursor-requires : goal.put_cursor-requires
 put_cursor-requires c = cursor-four _ c.cursor_of.ensures c.in-Is.is
 
 pub put_writer-requires : goal.put_writer-requires
-put_writer-requires c = writer-three _ c.Writer-of.ensures c.in-Is-writer_of.is
+put_writer-requires c = writer-three _ c.writer_of.ensures c.in-Is-writer_of.is
 
 pub returns-in-Is-writer_of : goal.returns-in-Is-writer_of
 unfolding rewrite_call
@@ -17,7 +17,7 @@ returns-in-Is-writer_of c =
     record {
       status = (rw (
         sym c.cursor_of.ensures ∙ c.in-Is.is,
-        sym c.Writer-of.ensures ∙ c.in-Is-writer_of.is,
+        sym c.writer_of.ensures ∙ c.in-Is-writer_of.is,
         c.rewrite_status.ensures.status,
         c.rewrite_status.ensures.line,
         c.put_writer.ensures,
@@ -27,7 +27,7 @@ returns-in-Is-writer_of c =
           (refl, (refl, (refl, (c.rewrite-a.ensures.bytes, (refl, refl)))))).0;
       cursor = (rw (
         sym c.cursor_of.ensures ∙ c.in-Is.is,
-        sym c.Writer-of.ensures ∙ c.in-Is-writer_of.is,
+        sym c.writer_of.ensures ∙ c.in-Is-writer_of.is,
         c.rewrite_status.ensures.status,
         c.rewrite_status.ensures.line,
         c.put_writer.ensures,
@@ -37,7 +37,7 @@ returns-in-Is-writer_of c =
           (refl, (refl, (refl, (c.rewrite-a.ensures.bytes, (refl, refl)))))).1.0;
       writer = (rw (
         sym c.cursor_of.ensures ∙ c.in-Is.is,
-        sym c.Writer-of.ensures ∙ c.in-Is-writer_of.is,
+        sym c.writer_of.ensures ∙ c.in-Is-writer_of.is,
         c.rewrite_status.ensures.status,
         c.rewrite_status.ensures.line,
         c.put_writer.ensures,
@@ -47,7 +47,7 @@ returns-in-Is-writer_of c =
           (refl, (refl, (refl, (c.rewrite-a.ensures.bytes, (refl, refl)))))).1.1.0;
       out = (rw (
         sym c.cursor_of.ensures ∙ c.in-Is.is,
-        sym c.Writer-of.ensures ∙ c.in-Is-writer_of.is,
+        sym c.writer_of.ensures ∙ c.in-Is-writer_of.is,
         c.rewrite_status.ensures.status,
         c.rewrite_status.ensures.line,
         c.put_writer.ensures,
@@ -57,7 +57,7 @@ returns-in-Is-writer_of c =
           (refl, (refl, (refl, (c.rewrite-a.ensures.bytes, (refl, refl)))))).1.1.1.0;
       count = (rw (
         sym c.cursor_of.ensures ∙ c.in-Is.is,
-        sym c.Writer-of.ensures ∙ c.in-Is-writer_of.is,
+        sym c.writer_of.ensures ∙ c.in-Is-writer_of.is,
         c.rewrite_status.ensures.status,
         c.rewrite_status.ensures.line,
         c.put_writer.ensures,
@@ -67,7 +67,7 @@ returns-in-Is-writer_of c =
           (refl, (refl, (refl, (c.rewrite-a.ensures.bytes, (refl, refl)))))).1.1.1.1.0;
       line = (rw (
         sym c.cursor_of.ensures ∙ c.in-Is.is,
-        sym c.Writer-of.ensures ∙ c.in-Is-writer_of.is,
+        sym c.writer_of.ensures ∙ c.in-Is-writer_of.is,
         c.rewrite_status.ensures.status,
         c.rewrite_status.ensures.line,
         c.put_writer.ensures,
@@ -81,17 +81,17 @@ pub returns-in-Bad-writer_of : goal.returns-in-Bad-writer_of
 unfolding rewrite_call
 returns-in-Bad-writer_of c =
     record {
-      status = (rw (sym c.cursor_of.ensures ∙ c.in-Is.is, sym c.Writer-of.ensures ∙ c.in-Bad-writer_of.is)
+      status = (rw (sym c.cursor_of.ensures ∙ c.in-Is.is, sym c.writer_of.ensures ∙ c.in-Bad-writer_of.is)
           (refl, (refl, (refl, (refl, (refl, refl)))))).0;
-      cursor = (rw (sym c.cursor_of.ensures ∙ c.in-Is.is, sym c.Writer-of.ensures ∙ c.in-Bad-writer_of.is)
+      cursor = (rw (sym c.cursor_of.ensures ∙ c.in-Is.is, sym c.writer_of.ensures ∙ c.in-Bad-writer_of.is)
           (refl, (refl, (refl, (refl, (refl, refl)))))).1.0;
-      writer = (rw (sym c.cursor_of.ensures ∙ c.in-Is.is, sym c.Writer-of.ensures ∙ c.in-Bad-writer_of.is)
+      writer = (rw (sym c.cursor_of.ensures ∙ c.in-Is.is, sym c.writer_of.ensures ∙ c.in-Bad-writer_of.is)
           (refl, (refl, (refl, (refl, (refl, refl)))))).1.1.0;
-      out = (rw (sym c.cursor_of.ensures ∙ c.in-Is.is, sym c.Writer-of.ensures ∙ c.in-Bad-writer_of.is)
+      out = (rw (sym c.cursor_of.ensures ∙ c.in-Is.is, sym c.writer_of.ensures ∙ c.in-Bad-writer_of.is)
           (refl, (refl, (refl, (refl, (refl, refl)))))).1.1.1.0;
-      count = (rw (sym c.cursor_of.ensures ∙ c.in-Is.is, sym c.Writer-of.ensures ∙ c.in-Bad-writer_of.is)
+      count = (rw (sym c.cursor_of.ensures ∙ c.in-Is.is, sym c.writer_of.ensures ∙ c.in-Bad-writer_of.is)
           (refl, (refl, (refl, (refl, (refl, refl)))))).1.1.1.1.0;
-      line = (rw (sym c.cursor_of.ensures ∙ c.in-Is.is, sym c.Writer-of.ensures ∙ c.in-Bad-writer_of.is)
+      line = (rw (sym c.cursor_of.ensures ∙ c.in-Is.is, sym c.writer_of.ensures ∙ c.in-Bad-writer_of.is)
           (refl, (refl, (refl, (refl, (refl, refl)))))).1.1.1.1.1;
     }
 
