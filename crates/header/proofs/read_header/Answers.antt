@@ -32,7 +32,7 @@ pub loop-d-preserved-in-Leaf : goal.loop-d-preserved-in-Leaf
 loop-d-preserved-in-Leaf c =
     let i = c.loop-d.invariant in
     let g = rw c.in-Leaf.is at c.take_item.ensures in
-    (i.0, i.1, omega (arith, g.0), c.take_item.auto.1.1.0 ∙ i.3, i.4 ∙ g.2 [] c.loop-d.header (refl, refl))
+    (i.0, i.1, omega (arith, g.0), c.take_item.auto.rows ∙ i.3, i.4 ∙ g.2 [] c.loop-d.header (refl, refl))
 
 pub overflow_add-n-in-Scope : goal.overflow_add-n-in-Scope
 overflow_add-n-in-Scope c =
@@ -46,7 +46,7 @@ pub parse_scope-requires : goal.parse_scope-requires
 parse_scope-requires c =
     let i = c.loop-d.invariant in
     let g = rw c.in-Scope.is at c.take_item.ensures in
-    let same = c.take_item.auto.1.1.0 ∙ i.3 in
+    let same = c.take_item.auto.rows ∙ i.3 in
     (omega (arith, g.1.0), i.0, omega (arith, same, i.1), omega arith)
 
 pub loop-d-smaller-in-Closed : goal.loop-d-smaller-in-Closed
@@ -64,12 +64,12 @@ loop-d-preserved-in-Closed c =
       i.0,
       i.1,
       f.0,
-      c.parse_scope.auto.1.1.0 ∙ c.take_item.auto.1.1.0 ∙ i.3,
+      c.parse_scope.auto.rows ∙ c.take_item.auto.rows ∙ i.3,
       i.4 ∙ g.1.2 [] l.header (refl, refl) ∙ f.2 [] l.header refl,
     )
 
 pub shape_of-rows-in-Refused-parse_scope : goal.shape_of-rows-in-Refused-parse_scope
-shape_of-rows-in-Refused-parse_scope c = c.parse_scope.auto.1.1.0 ∙ c.take_item.auto.1.1.0 ∙ c.loop-d.invariant.3
+shape_of-rows-in-Refused-parse_scope c = c.parse_scope.auto.rows ∙ c.take_item.auto.rows ∙ c.loop-d.invariant.3
 
 pub returns-in-Refused-parse_scope : goal.returns-in-Refused-parse_scope
 returns-in-Refused-parse_scope c =
@@ -100,7 +100,7 @@ loop-d-preserved c =
     let g = rw c.in-Other.is at c.take_item.ensures in
     let v = c.k-1.given.0 in
     let kept = rw c.in-On.is at (keep-here a.input.now c.capacity-cap.result l.cur v.1.0 l.rows l.n l.header v.0 g.1 g.2 c.keep.result c.keep.ensures) in
-    (i.0, i.1, i.2, c.take_item.auto.1.1.0 ∙ i.3, rw g.0 (i.4 ∙ kept))
+    (i.0, i.1, i.2, c.take_item.auto.rows ∙ i.3, rw g.0 (i.4 ∙ kept))
 
 pub returns-in-Ends : goal.returns-in-Ends
 returns-in-Ends c =

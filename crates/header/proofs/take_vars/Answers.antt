@@ -58,7 +58,7 @@ loop-n-preserved c =
     let q = (told (goal.at.loop-n-preserved c).In-Hit).reads _ i.0 refl in
     rw c.word_read-cur.ensures (
       (command-past _ _ _ _ q).0.valid,
-      c.put_var.auto.0 ∙ i.1,
+      c.put_var.auto.rows ∙ i.1,
       rw c.put_var.ensures (passes-more _ _ _ _ _ _ _ _ _ _ _ i.2 q l),
     )
 

@@ -97,7 +97,7 @@ pub loop-n-preserved : goal.loop-n-preserved
 loop-n-preserved c = more (goal.at.loop-n-preserved c).After-step_fast _ (step (goal.at.loop-n-preserved c).After-step_fast _ c.in-Read.is)
 
 pub shape_of-records-in-Ends : goal.shape_of-records-in-Ends
-shape_of-records-in-Ends c = c.step_fast.auto.1.1.0 ∙ ran-length _ _ _ _ _ _ _ (come (run_of (goal.at.shape_of-records-in-Ends c).After-step_fast))
+shape_of-records-in-Ends c = c.step_fast.auto.records ∙ ran-length _ _ _ _ _ _ _ (come (run_of (goal.at.shape_of-records-in-Ends c).After-step_fast))
 
 pub returns-in-Ends : goal.returns-in-Ends
 returns-in-Ends c =

@@ -17,7 +17,7 @@ sought : (c : After-find_end-found) → c.find_end-found.result ≡ first_end (r
 sought c = c.find_end-found.ensures ∙ ap first_end (take_rest c.args.input.now c.args.c.place)
 
 at_mark : (c : In-At) → Found.At c.in-At.len ≡ first_end (rest c.args.input.now c.args.c)
-at_mark c = sym c.in-At.is ∙ sought c.before.before.before
+at_mark c = sym c.in-At.is ∙ c.find_end-found.ensures ∙ ap first_end (take_rest c.args.input.now c.args.c.place)
 
 room : (c : In-At) → c.args.c.place + c.in-At.len + 4 ≤ length c.args.input.now
 room c = (text-found _ _ c.requires _ (at_mark c)).0

@@ -32,7 +32,7 @@ loop-i-preserved c =
       omega (arith, x.0, l.invariant.0),
       omega (arith, x.0, c.loop-i-test.true),
       x.1,
-      c.write_var.auto.1.1.1.1.0 ∙ l.invariant.3,
+      c.write_var.auto.out ∙ l.invariant.3,
       one_more a.src.now a.rows.now a.n a.from a.out.now a.at a.w l.i l.out l.place l.v
           c.loop-i-test.true c.var_at.ensures
           c.parent_at-me.ensures (sym c.is_var_of.ensures ∙ c.if-is_var_of.true) l.invariant.4 _ _ _ _ x,
