@@ -16,10 +16,10 @@ use Rattle.emit.proofs.Storing.{stored-byte, stored-length, stored-before, store
 abbrev inner : ℕ → List ℕ → List ℕ
 inner at o = take (length o - 1 - at) (drop at o)
 
-abbrev within : ℕ → List ℕ → List ℕ → List ℕ
+abbrev pub within : ℕ → List ℕ → List ℕ → List ℕ
 within at o ys = put_mid at (length o - 1 - at) o ys
 
-abbrev Placing : List ℕ → ℕ → List ℕ → Placed → List ℕ → Type 0
+abbrev pub Placing : List ℕ → ℕ → List ℕ → Placed → List ℕ → Type 0
 Placing t at o x ys = (x ≡ put_answer t (inner at o)) × (ys ≡ put_bytes t (inner at o))
 
 module _ (t o : List ℕ) (at : ℕ) (h : at + 1 ≤ length o) {x : Placed} {ys : List ℕ} (e : Placing t at o x ys) where

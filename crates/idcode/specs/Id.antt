@@ -1,8 +1,6 @@
 -- Id codes: what a text means, the text of a code, and the code after one.
 use Rattle.std.specs.Prelude.{ℕ, zero, suc, ◌+◌, ◌-◌, ◌*◌, ◌/◌, ◌%◌, ◌^◌, Bool, true, false, cond, List, [], ◌∷◌, leb, eqb}
 use Rattle.idcode.specs.Ieee.{first_character, last_character}
-use Rattle.idcode.specs.declared.IdCode.{IdCode}
-use Rattle.idcode.specs.declared.InvalidIdCode.{InvalidIdCode}
 use Rattle.idcode.specs.declared.InvalidIdCode.TheVariants.{Empty, InvalidChars, TooLong}
 use Rattle.idcode.specs.declared.Parsed.{Parsed}
 use Rattle.idcode.specs.declared.Parsed.TheVariants.{Code, Refused}

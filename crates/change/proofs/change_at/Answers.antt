@@ -3,7 +3,6 @@ use borrow.Author.Tests.{lt-ltb}
 use native.Mathlib.Omega.{arith}
 use Rattle.change.specs.Rows.{change_at}
 use Rattle.change.proofs.Table.{row-none}
-use borrow.Author.Rules.{rules}
 use Rattle.change.proofs.change_at.Goals as goal
 
 pub returns-then-rows-i : goal.returns-then-rows-i

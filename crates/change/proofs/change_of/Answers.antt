@@ -1,8 +1,7 @@
 -- Goals of `change::change_of` that the search leaves.
 use mathlib.Core.Path.{sym, ◌∙◌}
-use borrow.Author.Tests.{not-true, not-false, le-leb, lt-leb}
+use borrow.Author.Tests.{le-leb, lt-leb}
 use Rattle.change.specs.Rows.{change_of}
-use borrow.Author.Rules.{rules}
 use Rattle.change.proofs.change_of.Goals as goal
 
 pub returns-then-not-is_since : goal.returns-then-not-is_since

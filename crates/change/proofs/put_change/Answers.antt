@@ -1,6 +1,5 @@
 -- Goals of `change::put_change` that the search leaves.
 use mathlib.Core.Path.{sym}
-use borrow.Author.Rules.{rules}
 use Rattle.change.proofs.put_change.Goals as goal
 
 pub returns-in-None : goal.returns-in-None

@@ -1,5 +1,4 @@
 -- Goals of `change::put_since` that the search leaves.
-use borrow.Author.Rules.{rules}
 use Rattle.change.proofs.put_since.Goals as goal
 
 pub returns-in-None : goal.returns-in-None

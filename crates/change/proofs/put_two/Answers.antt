@@ -1,6 +1,5 @@
 -- Goals of `change::put_two` that the search leaves.
 use Rattle.change.proofs.Table.{two-set}
-use borrow.Author.Rules.{rules}
 use Rattle.change.proofs.put_two.Goals as goal
 
 pub returns : goal.returns

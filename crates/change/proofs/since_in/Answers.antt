@@ -1,8 +1,7 @@
 -- Goals of `change::since_in` that the search leaves.
 use mathlib.Core.Path.{sym, ◌∙◌}
-use borrow.Author.Tests.{eq-eqb, ne_eqb, not-true, not-false}
+use borrow.Author.Tests.{eq-eqb, ne_eqb}
 use Rattle.change.specs.Rows.{since_in}
-use borrow.Author.Rules.{rules}
 use Rattle.change.proofs.since_in.Goals as goal
 
 pub returns-then-w-ne-SINCE : goal.returns-then-w-ne-SINCE

@@ -4,7 +4,6 @@ use native.Mathlib.Omega.{arith}
 use lib.ListN.{length-drop}
 use Rattle.text.proofs.Equal.{starts-short}
 use Rattle.command.proofs.Ends.{end-not, end-equal}
-use borrow.Author.Rules.{rules}
 use Rattle.command.proofs.end_at.Goals as goal
 
 pub returns-then-s-i-lt4 : goal.returns-then-s-i-lt4

@@ -1,9 +1,6 @@
 -- Goals of `command::find_end` that the search leaves.
-use Prim.Native.Nat.{◌-◌}
-use lib.ListN.{length}
 use mathlib.Core.Path.{sym, ◌∙◌}
-use borrow.Author.Rules.{rules}
-use Rattle.command.proofs.Ends.{Sought, sought-start, sought-more, sought-found, sought-none}
+use Rattle.command.proofs.Ends.{sought-start, sought-more, sought-found, sought-none}
 use Rattle.command.proofs.find_end.Goals as goal
 
 pub loop-i-init : goal.loop-i-init

@@ -1,9 +1,7 @@
 -- What the loops of `command::find_end` keep.
 use Prim.Native.Nat.{◌-◌}
 use lib.ListN.{length}
-use mathlib.Core.Path.{sym, ◌∙◌}
-use borrow.Author.Rules.{rules}
-use Rattle.command.proofs.Ends.{Sought, sought-start, sought-more, sought-found, sought-none}
+use Rattle.command.proofs.Ends.{Sought}
 use Rattle.command.proofs.find_end.Given as goal
 
 abbrev pub invariant-loop-i : goal.invariant-loop-i

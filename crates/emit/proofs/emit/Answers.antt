@@ -1,7 +1,6 @@
 -- Goals of `emit::emit` that the search leaves.
 use native.Mathlib.Nat.{zero-add}
 use mathlib.Core.List.{[], ◌∷◌}
-use borrow.Author.Rules.{rules}
 use Rattle.emit.proofs.Storing.{fits-yes, fits-no, lay-none, lay_done}
 use Rattle.emit.proofs.emit.Goals as goal
 

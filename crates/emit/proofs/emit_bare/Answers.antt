@@ -1,5 +1,4 @@
 -- Goals of `emit::emit_bare` that the search leaves.
-use borrow.Author.Rules.{rules}
 use Rattle.emit.proofs.emit_bare.Goals as goal
 
 pub returns : goal.returns

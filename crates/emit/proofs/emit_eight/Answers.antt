@@ -1,52 +1,45 @@
 -- Goals of `emit::emit_eight` that the search leaves.
-use Prim.Native.Nat.{◌/◌, ◌%◌}
+use Prim.Native.Nat.{ℕ, ◌/◌, ◌%◌}
 use mathlib.Core.Path.{◌≡◌, refl}
-use mathlib.Core.List.{[], ◌∷◌}
+use mathlib.Core.List.{List, [], ◌∷◌}
 use native.Mathlib.Omega.{arith}
-use borrow.Author.Rules.{rules}
 use lib.ListN.{length, set, length-set}
 use Rattle.text.specs.Bytes.{bytes}
 use Rattle.emit.specs.Put.{stored}
 use Rattle.emit.proofs.Storing.{stored-byte, run-start}
 use Rattle.emit.proofs.Pairs.{pair, four-pairs}
 use Rattle.emit.proofs.emit_eight.Goals as goal
-use Rattle.emit.proofs.emit_eight.Goals.{After-slice_known-1, After-slice_known-5-1}
 
 -- no byte more or less: after the first byte, and after the pairs
-first : (c : After-slice_known-1) → length (set c.args.out.now 0 35) ≡ length c.args.out.now
-first c = simp length-set
+first : (o : List ℕ) → length (set o 0 35) ≡ length o
+first o = simp length-set
 
 pub put_pair-requires : goal.put_pair-requires
-put_pair-requires c = (omega (arith, first (goal.at.put_pair-requires c).After-slice_known-1), omega arith)
+put_pair-requires c = (omega (arith, first c.args.out.now), omega arith)
 
 pub put_pair-requires-2 : goal.put_pair-requires-2
-put_pair-requires-2 c = (omega (arith, first (goal.at.put_pair-requires-2 c).After-slice_known-1), omega arith)
+put_pair-requires-2 c = (omega (arith, first c.args.out.now), omega arith)
 
 pub put_pair-requires-3 : goal.put_pair-requires-3
-put_pair-requires-3 c = (omega (arith, first (goal.at.put_pair-requires-3 c).After-slice_known-1), omega arith)
+put_pair-requires-3 c = (omega (arith, first c.args.out.now), omega arith)
 
 pub put_pair-requires-4 : goal.put_pair-requires-4
-put_pair-requires-4 c = (omega (arith, first (goal.at.put_pair-requires-4 c).After-slice_known-1), omega arith)
-
-long : (c : After-slice_known-5-1) →
-    let x = c.args in
-    length c.put_pair-4.new.0 ≡ length x.out.now
-long c = omega (arith, first c.before.before.before.before.before.before.before.before.before.before.before.before.before.before.before.before)
+put_pair-requires-4 c = (omega (arith, first c.args.out.now), omega arith)
 
 pub bounds-out-9 : goal.bounds-out-9
-bounds-out-9 c = omega (arith, long (goal.at.bounds-out-9 c).After-slice_known-5-1)
+bounds-out-9 c = omega (arith, first c.args.out.now)
 
 pub shape_of-out : goal.shape_of-out
-shape_of-out c = simp length-set (long (goal.at.shape_of-out c).After-slice_known-5-1)
+shape_of-out c = simp length-set (omega (arith, first c.args.out.now))
 
 pub returns : goal.returns
 returns c =
     let x = c.args in
-    let left = c.put_pair-4.new.0 in
+    let left = c.put_pair-4.new.out in
     let high = x.n / 10000 in
     let low = x.n % 10000 in
     let hash : set x.out.now 0 35 ≡ stored x.out.now 0 (bytes "#") = stored-byte x.out.now 0 35 (omega arith) in
-    let last : set left 9 10 ≡ stored left 9 (bytes "\n") = stored-byte left 9 10 (slice-write-out-2 c) in
+    let last : set left 9 10 ≡ stored left 9 (bytes "\n") = stored-byte left 9 10 (omega (arith, first x.out.now)) in
     let words = bytes "#" ∷ pair (high / 100) ∷ pair (high % 100) ∷ pair (low / 100) ∷ pair (low % 100) ∷ bytes "\n" ∷ [] in (
       refl,
       rw (four-pairs x.n (omega arith) (omega arith)) (run-start x.out.now words 10 (set left 9 10) refl (cc)).1,

@@ -1,5 +1,4 @@
 -- Goals of `emit::emit_text` that the search leaves.
-use borrow.Author.Rules.{rules}
 use Rattle.idcode.specs.Id.{id_text}
 use Rattle.emit.proofs.Storing.{row-text}
 use Rattle.emit.proofs.emit_text.Goals as goal

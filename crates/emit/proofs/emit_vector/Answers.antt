@@ -3,15 +3,15 @@ use Prim.Native.Nat.{ℕ, ◌+◌, ◌≤◌}
 use mathlib.Core.Path.{◌≡◌, refl, ap, ◌∙◌}
 use mathlib.Core.List.{List, [], ◌∷◌, ◌++◌, map, append_assoc}
 use native.Mathlib.Omega.{arith}
-use borrow.Author.Rules.{rules}
 use lib.ListN.{length, set, length-append, length-map, length-set}
 use Rattle.idcode.specs.Id.{id_text}
 use Rattle.text.specs.Bytes.{bytes}
+use Rattle.text.specs.declared.Placed.{Placed}
 use Rattle.value.specs.Values.{lower}
+use Rattle.emit.specs.Put.{stored}
 use Rattle.emit.proofs.Storing.{stored-length, lay-none}
-use Rattle.emit.proofs.Framing.{spared, framed, unframed}
+use Rattle.emit.proofs.Framing.{Placing, within, spared, framed, unframed}
 use Rattle.emit.proofs.emit_vector.Goals as goal
-use Rattle.emit.proofs.emit_vector.Goals.{After-slice_known-in-Count-1}
 
 -- what stands before the id
 abbrev values : List ℕ → List ℕ
@@ -31,23 +31,21 @@ returns-then-out-v c =
     lay-none (bytes "b") (map lower x.v.now ∷ bytes " " ∷ id_text x.id.0 ∷ bytes "\n" ∷ []) x.out.now (simp length-map (omega arith))
 
 -- what the calls left: room for the newline, and as many bytes as there were
-room : (c : After-slice_known-in-Count-1) →
-    let x = c.args in
-    (length x.v.now + 2 + c.in-Count.n + 1 ≤ length x.out.now)
-    × (length c.put_values.new.0 ≡ length x.out.now)
-room c =
-    let x = c.args in
-    let y = spared (id_text x.id.0) x.out.now (length x.v.now + 2) (omega arith) c.put.ensures _ c.in-Count.is in
-    (y.0, ap length c.put_values.ensures ∙ stored-length _ 0 (values x.v.now) (omega (arith, y.1, size x.v.now)) ∙ y.1)
+module _ (t v o : List ℕ) (h : length v + 3 ≤ length o) {x : Placed} {ys left : List ℕ} (e : Placing t (length v + 2) o x ys) where
+  room : (n : ℕ) → x ≡ Placed.Count n → left ≡ stored (within (length v + 2) o ys) 0 (values v)
+      → (length v + 2 + n + 1 ≤ length o) × (length left ≡ length o)
+  room n q l =
+      let y = spared t o (length v + 2) (omega arith) e n q in
+      (y.0, ap length l ∙ stored-length _ 0 (values v) (omega (arith, y.1, size v)) ∙ y.1)
 
 pub overflow_add-out : goal.overflow_add-out
-overflow_add-out c = omega (arith, room (goal.at.overflow_add-out c).After-slice_known-in-Count-1)
+overflow_add-out c = omega (arith, room (id_text c.args.id.0) c.args.v.now c.args.out.now (omega arith) c.put.ensures c.in-Count.n c.in-Count.is c.put_values.ensures)
 
 pub bounds-out-at : goal.bounds-out-at
-bounds-out-at c = omega (arith, room (goal.at.bounds-out-at c).After-slice_known-in-Count-1)
+bounds-out-at c = omega (arith, room (id_text c.args.id.0) c.args.v.now c.args.out.now (omega arith) c.put.ensures c.in-Count.n c.in-Count.is c.put_values.ensures)
 
 pub shape_of-out-in-Count : goal.shape_of-out-in-Count
-shape_of-out-in-Count c = simp length-set (room (goal.at.shape_of-out-in-Count c).After-slice_known-in-Count-1).1
+shape_of-out-in-Count c = simp length-set (room (id_text c.args.id.0) c.args.v.now c.args.out.now (omega arith) c.put.ensures c.in-Count.n c.in-Count.is c.put_values.ensures).1
 
 pub returns-in-Count : goal.returns-in-Count
 returns-in-Count c =
@@ -64,7 +62,7 @@ returns-in-NoRoom c =
     (unframed (values x.v.now) (id_text x.id.0) x.out.now _ (size x.v.now) (omega arith) c.put.ensures c.in-NoRoom.is refl)
 
 pub overflow_add-result : goal.overflow_add-result
-overflow_add-result c = omega (arith, room (goal.at.overflow_add-result c).After-slice_known-in-Count-1)
+overflow_add-result c = omega (arith, room (id_text c.args.id.0) c.args.v.now c.args.out.now (omega arith) c.put.ensures c.in-Count.n c.in-Count.is c.put_values.ensures)
 
 pub overflow_add-result-in-Count : goal.overflow_add-result-in-Count
-overflow_add-result-in-Count c = omega (arith, room (goal.at.overflow_add-result-in-Count c).After-slice_known-in-Count-1)
+overflow_add-result-in-Count c = omega (arith, room (id_text c.args.id.0) c.args.v.now c.args.out.now (omega arith) c.put.ensures c.in-Count.n c.in-Count.is c.put_values.ensures)

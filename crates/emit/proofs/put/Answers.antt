@@ -1,9 +1,8 @@
 -- Goals of `emit::put` that the search leaves.
-use Prim.Native.Nat.{◌+◌, ◌-◌, ◌≤◌}
-use mathlib.Core.Path.{◌≡◌, refl, ap, ◌∙◌}
+use Prim.Native.Nat.{◌+◌, ◌-◌}
+use mathlib.Core.Path.{refl, ap, ◌∙◌}
 use native.Mathlib.Omega.{arith}
-use borrow.Author.Rules.{rules}
-use lib.ListN.{length, take}
+use lib.ListN.{length}
 use lib.Seq.{take_all}
 use Rattle.emit.specs.Put.{stored}
 use Rattle.emit.proofs.Storing.{stored-none, stored-over}
@@ -20,7 +19,7 @@ loop-i-preserved c =
       omega arith,
       p.ensures
           ∙ rw l.invariant.1 (stored-over a.out.now a.word.now a.at l.i l.i 8 (omega arith) (omega arith) (omega arith) (omega arith)),
-      p.auto.0 ∙ l.invariant.2,
+      p.auto.out ∙ l.invariant.2,
     )
 
 pub returns : goal.returns

@@ -1,12 +1,8 @@
 -- What the loops of `emit::put` keep.
-use Prim.Native.Nat.{◌+◌, ◌-◌, ◌≤◌}
-use mathlib.Core.Path.{◌≡◌, refl, ap, ◌∙◌}
-use native.Mathlib.Omega.{arith}
-use borrow.Author.Rules.{rules}
+use Prim.Native.Nat.{◌-◌, ◌≤◌}
+use mathlib.Core.Path.{◌≡◌}
 use lib.ListN.{length, take}
-use lib.Seq.{take_all}
 use Rattle.emit.specs.Put.{stored}
-use Rattle.emit.proofs.Storing.{stored-none, stored-over}
 use Rattle.emit.proofs.put.Given as goal
 
 abbrev pub invariant-loop-i : goal.invariant-loop-i

@@ -1,6 +1,5 @@
 -- Goals of `emit::put_eight` that the search leaves.
 use native.Mathlib.Omega.{arith}
-use borrow.Author.Rules.{rules}
 use Rattle.emit.proofs.Storing.{eight-from}
 use Rattle.emit.proofs.put_eight.Goals as goal
 

@@ -1,12 +1,8 @@
 -- What the loops of `emit::put_few` keep.
 use Prim.Native.Nat.{◌+◌, ◌-◌, ◌≤◌}
-use mathlib.Core.Path.{◌≡◌, refl, ap, ◌∙◌}
-use native.Mathlib.Omega.{arith}
-use borrow.Author.Rules.{rules}
-use lib.ListN.{length, take, length-set}
-use lib.Seq.{take_all}
+use mathlib.Core.Path.{◌≡◌}
+use lib.ListN.{length, take}
 use Rattle.emit.specs.Put.{stored}
-use Rattle.emit.proofs.Storing.{stored-none, stored-step}
 use Rattle.emit.proofs.put_few.Given as goal
 
 abbrev pub invariant-loop-i : goal.invariant-loop-i

@@ -1,7 +1,6 @@
 -- Goals of `emit::put_five` that the search leaves.
 use mathlib.Core.List.{[], ◌∷◌}
 use native.Mathlib.Omega.{arith}
-use borrow.Author.Rules.{rules}
 use Rattle.emit.proofs.Storing.{run}
 use Rattle.emit.proofs.put_five.Goals as goal
 

@@ -1,10 +1,8 @@
 -- Goals of `emit::put_lower` that the search leaves.
-use Prim.Native.Nat.{◌+◌, ◌-◌, ◌≤◌}
 use mathlib.Core.Path.{◌≡◌, refl, sym, ap, ◌∙◌}
 use mathlib.Core.List.{map}
 use native.Mathlib.Omega.{arith}
-use borrow.Author.Rules.{rules}
-use lib.ListN.{length, take, length-set, length-map}
+use lib.ListN.{length, length-set, length-map}
 use lib.Seq.{take_all}
 use Rattle.value.specs.Values.{lower}
 use Rattle.value.proofs.Vectors.{lower-at}

@@ -1,15 +1,10 @@
 -- What the loops of `emit::put_lower` keep.
 use Prim.Native.Nat.{◌+◌, ◌-◌, ◌≤◌}
-use mathlib.Core.Path.{◌≡◌, refl, sym, ap, ◌∙◌}
+use mathlib.Core.Path.{◌≡◌}
 use mathlib.Core.List.{map}
-use native.Mathlib.Omega.{arith}
-use borrow.Author.Rules.{rules}
-use lib.ListN.{length, take, length-set, length-map}
-use lib.Seq.{take_all}
+use lib.ListN.{length, take}
 use Rattle.value.specs.Values.{lower}
-use Rattle.value.proofs.Vectors.{lower-at}
 use Rattle.emit.specs.Put.{stored}
-use Rattle.emit.proofs.Storing.{stored-none, stored-step}
 use Rattle.emit.proofs.put_lower.Given as goal
 
 abbrev pub invariant-loop-i : goal.invariant-loop-i

@@ -1,6 +1,5 @@
 -- Goals of `emit::put_pair` that the search leaves.
 use native.Mathlib.Omega.{arith}
-use borrow.Author.Rules.{rules}
 use lib.ListN.{length-set}
 use Rattle.emit.proofs.Storing.{each-stored}
 use Rattle.emit.proofs.Pairs.{pair}

@@ -1,7 +1,6 @@
 -- Goals of `emit::store_eight` that the search leaves.
 use mathlib.Core.List.{[], ◌∷◌}
 use native.Mathlib.Omega.{arith}
-use borrow.Author.Rules.{rules}
 use lib.ListN.{length-set}
 use Rattle.emit.proofs.Storing.{each-stored}
 use Rattle.emit.proofs.store_eight.Goals as goal

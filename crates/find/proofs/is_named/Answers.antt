@@ -6,7 +6,7 @@ use borrow.Author.Rules.{rules}
 use Rattle.find.proofs.is_named.Goals as goal
 
 pub returns-then-parent_word-parent : goal.returns-then-parent_word-parent
-returns-then-parent_word-parent c = rw (c.in-Scope.is, c.in-Scope-kind.is, eq-eqb _ _ (sym c.parent_word.ensures ∙ c.if-parent_word-parent.true)) c.is_IsWord.ensures
+returns-then-parent_word-parent c = rw (c.in-Scope.is, c.in-Scope-kind.is, eq-eqb _ _ (sym c.parent_word.ensures ∙ c.if-parent_word-parent.true)) c.is_word.ensures
 
 pub returns-else-parent_word-parent : goal.returns-else-parent_word-parent
 returns-else-parent_word-parent c = rw (c.in-Scope.is, c.in-Scope-kind.is, c.parent_word.ensures, ne_eqb _ _ (λ e. c.if-parent_word-parent.false (c.parent_word.ensures ∙ e)))

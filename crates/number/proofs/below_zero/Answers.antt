@@ -4,7 +4,6 @@ use mathlib.Core.Path.{◌∙◌, sym, ap}
 use Rattle.number.specs.declared.Signed.TheVariants.{Is}
 use Rattle.number.specs.Decimal.{negated}
 use Rattle.number.proofs.Negating.{read_wide, read-other, read-narrow, read_below}
-use borrow.Author.Rules.{rules}
 use Rattle.number.proofs.below_zero.Goals as goal
 use Rattle.number.proofs.below_zero.Goals.{In-Is}
 

@@ -1,8 +1,7 @@
 -- Goals of `number::decimal` that the search leaves.
 use native.Mathlib.Omega.{arith}
-use borrow.Author.Rules.{rules}
 use Rattle.number.proofs.Writing.{short}
-use Rattle.number.proofs.Filling.{Filled, fill_start, fill_more, fill-spelled}
+use Rattle.number.proofs.Filling.{fill_start, fill_more, fill-spelled}
 use Rattle.number.proofs.decimal.Goals as goal
 
 pub loop-i-init : goal.loop-i-init

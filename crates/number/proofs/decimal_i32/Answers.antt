@@ -2,7 +2,6 @@
 use mathlib.Core.Path.{◌∙◌, ap}
 use Rattle.text.specs.Texts.{spelled}
 use Rattle.number.proofs.Negating.{write-plain, write-from-zero, write-wide, write-other, write-size, write-below}
-use borrow.Author.Rules.{rules}
 use Rattle.number.proofs.decimal_i32.Goals as goal
 
 pub overflow_cast-n : goal.overflow_cast-n

@@ -1,9 +1,5 @@
 -- Goals of `number::digits` that the search leaves.
-use Prim.Native.Nat.{◌+◌}
-use mathlib.Core.Path.{◌≡◌}
 use native.Mathlib.Omega.{arith}
-use lib.ListN.{length}
-use Rattle.number.specs.Decimal.{decimal_of}
 use Rattle.number.proofs.Writing.{some, short, length-one, length_more}
 use Rattle.number.proofs.digits.Goals as goal
 

@@ -1,10 +1,8 @@
 -- What the loops of `number::digits` keep.
 use Prim.Native.Nat.{◌+◌}
 use mathlib.Core.Path.{◌≡◌}
-use native.Mathlib.Omega.{arith}
 use lib.ListN.{length}
 use Rattle.number.specs.Decimal.{decimal_of}
-use Rattle.number.proofs.Writing.{some, short, length-one, length_more}
 use Rattle.number.proofs.digits.Given as goal
 
 abbrev pub invariant-loop-rest : goal.invariant-loop-rest

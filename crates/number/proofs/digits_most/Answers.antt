@@ -1,12 +1,8 @@
 -- Goals of `number::digits_most` that the search leaves.
 use native.Mathlib.Omega.{arith}
-use borrow.Author.Rules.{rules}
-use borrow.Author.Tests.{ltb-true, ltb-false}
-use mathlib.Core.Logic.{⊎_elim}
-use Prim.Native.Nat.{◌-◌}
-use lib.ListN.{length}
+use borrow.Author.Tests.{ltb-false}
 use Rattle.number.proofs.Laws.{low_byte, high_byte}
-use Rattle.number.proofs.Reading.{ReadTo, read_none, read-start, read-bad, read-large, read_more, read_done}
+use Rattle.number.proofs.Reading.{read_none, read-start, read-bad, read-large, read_more, read_done}
 use Rattle.number.proofs.digits_most.Goals as goal
 use Rattle.number.proofs.digits_most.Goals.{then-b-lt48-via-then-b-lt48, then-b-lt48-via-else-b-lt48+then-b-gt57, then-most-d-via-then-most-d, then-most-d-via-else-most-d+then-most-d-2}
 

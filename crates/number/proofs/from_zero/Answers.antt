@@ -5,7 +5,6 @@ use mir.Syntax.{w32}
 use mir.ValLaws.{to_z_pos}
 use Rattle.number.specs.declared.Signed.TheVariants.{Is}
 use Rattle.number.specs.Decimal.{plain}
-use borrow.Author.Rules.{rules}
 use Rattle.number.proofs.from_zero.Goals as goal
 use Rattle.number.proofs.from_zero.Goals.{In-Is}
 

@@ -5,7 +5,6 @@ use Rattle.text.proofs.Lists.{take_rest}
 use Rattle.number.proofs.Laws.{digits-below, parse-below, under}
 use native.Mathlib.Omega.{arith}
 use Rattle.number.proofs.Signs.{signed-none, signed-minus, signed-plain}
-use borrow.Author.Rules.{rules}
 use Rattle.number.proofs.parse_i32.Goals as goal
 
 pub returns-then-s-eq0 : goal.returns-then-s-eq0

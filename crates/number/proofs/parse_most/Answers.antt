@@ -2,7 +2,6 @@
 use mathlib.Core.Path.{◌∙◌}
 use Rattle.number.proofs.Laws.{sign-none, sign-plus, sign-no}
 use Rattle.text.proofs.Lists.{take_rest}
-use borrow.Author.Rules.{rules}
 use Rattle.number.proofs.parse_most.Goals as goal
 
 pub returns-then-s-eq0 : goal.returns-then-s-eq0

@@ -3,7 +3,6 @@ use mathlib.Core.Path.{◌∙◌, sym, ap}
 use native.Mathlib.Omega.{arith}
 use Rattle.number.specs.Decimal.{narrow}
 use Rattle.number.proofs.Laws.{accepted}
-use borrow.Author.Rules.{rules}
 use Rattle.number.proofs.parse_u32.Goals as goal
 
 pub overflow_cast-result : goal.overflow_cast-result

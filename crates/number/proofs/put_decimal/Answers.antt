@@ -1,9 +1,8 @@
 -- Goals of `number::put_decimal` that the search leaves.
 use native.Mathlib.Omega.{arith}
-use borrow.Author.Rules.{rules}
 use Rattle.text.proofs.Rows.{no_room}
 use Rattle.number.specs.Decimal.{decimal_of}
-use Rattle.number.proofs.Filling.{Filled, fill_start, fill-length, fill_more, fill-put}
+use Rattle.number.proofs.Filling.{fill_start, fill-length, fill_more, fill-put}
 use Rattle.number.proofs.put_decimal.Goals as goal
 
 pub returns-then-out-len : goal.returns-then-out-len

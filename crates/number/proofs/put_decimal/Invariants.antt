@@ -1,9 +1,5 @@
 -- What the loops of `number::put_decimal` keep.
-use native.Mathlib.Omega.{arith}
-use borrow.Author.Rules.{rules}
-use Rattle.text.proofs.Rows.{no_room}
-use Rattle.number.specs.Decimal.{decimal_of}
-use Rattle.number.proofs.Filling.{Filled, fill_start, fill-length, fill_more, fill-put}
+use Rattle.number.proofs.Filling.{Filled}
 use Rattle.number.proofs.put_decimal.Given as goal
 
 abbrev pub invariant-loop-i : goal.invariant-loop-i

@@ -1,9 +1,6 @@
 -- Goals of `real::count_digits` that the search leaves.
-use Prim.Native.Nat.{◌-◌}
-use borrow.Author.Rules.{rules}
-use lib.ListN.{length}
 use Rattle.number.proofs.Laws.{digit, low_byte, high_byte}
-use Rattle.real.proofs.Reals.{Counted, count-start, count-more, count-stop, count-end}
+use Rattle.real.proofs.Reals.{count-start, count-more, count-stop, count-end}
 use Rattle.real.proofs.count_digits.Goals as goal
 
 pub loop-i-init : goal.loop-i-init

@@ -1,9 +1,7 @@
 -- What the loops of `real::count_digits` keep.
 use Prim.Native.Nat.{◌-◌}
-use borrow.Author.Rules.{rules}
 use lib.ListN.{length}
-use Rattle.number.proofs.Laws.{digit, low_byte, high_byte}
-use Rattle.real.proofs.Reals.{Counted, count-start, count-more, count-stop, count-end}
+use Rattle.real.proofs.Reals.{Counted}
 use Rattle.real.proofs.count_digits.Given as goal
 
 abbrev pub invariant-loop-i : goal.invariant-loop-i

@@ -1,9 +1,6 @@
 -- Goals of `real::equals_lower` that the search leaves.
-use Prim.Native.Nat.{◌-◌}
 use mathlib.Core.Path.{sym, ◌∙◌}
-use borrow.Author.Rules.{rules}
-use lib.ListN.{length}
-use Rattle.real.proofs.Reals.{Matched, match-short, match-start, match-more, match-stop, match-end}
+use Rattle.real.proofs.Reals.{match-short, match-start, match-more, match-stop, match-end}
 use Rattle.real.proofs.equals_lower.Goals as goal
 
 pub returns-then-s-word : goal.returns-then-s-word

@@ -1,7 +1,6 @@
 -- Goals of `real::is_named` that the search leaves.
 use mathlib.Core.Path.{sym, ◌∙◌}
 use Rattle.real.specs.Real.{is_named}
-use borrow.Author.Rules.{rules}
 use Rattle.real.proofs.is_named.Goals as goal
 
 pub returns-then-equals_lower : goal.returns-then-equals_lower

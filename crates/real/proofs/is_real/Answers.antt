@@ -1,7 +1,6 @@
 -- Goals of `real::is_real` that the search leaves.
 use mathlib.Core.Path.{sym, ◌∙◌}
 use Rattle.real.specs.Real.{is_real}
-use borrow.Author.Rules.{rules}
 use Rattle.real.proofs.is_real.Goals as goal
 
 pub returns-then-is_named : goal.returns-then-is_named

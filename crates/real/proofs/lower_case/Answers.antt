@@ -1,5 +1,4 @@
 -- Goals of `real::lower_case` that the search leaves.
-use borrow.Author.Rules.{rules}
 use Rattle.real.proofs.Reals.{lower-under, lower-over, lower-capital}
 use Rattle.real.proofs.lower_case.Goals as goal
 

@@ -1,5 +1,4 @@
 -- Goals of `real::unsigned` that the search leaves.
-use borrow.Author.Rules.{rules}
 use Rattle.text.proofs.Lists.{take_rest}
 use Rattle.real.proofs.Reals.{unsigned-none, unsigned-sign, unsigned-no, has_first, has-second, has-neither}
 use Rattle.real.proofs.unsigned.Goals as goal

@@ -2,7 +2,6 @@
 use borrow.Author.Tests.{ne_eqb}
 use Rattle.rows.specs.Rows.{index_of}
 use Rattle.rows.proofs.Words.{signed-held}
-use borrow.Author.Rules.{rules}
 use Rattle.rows.proofs.index_of.Goals as goal
 
 pub returns-in-0 : goal.returns-in-0

@@ -1,12 +1,11 @@
 -- Goals of `rows::put_list` that the search leaves.
-use Prim.Native.Nat.{◌-◌, ◌*◌, ◌≤◌}
+use Prim.Native.Nat.{◌*◌}
 use mathlib.Core.Path.{◌≡◌, refl, ap, ◌∙◌}
 use native.Mathlib.Omega.{arith}
 use native.Mathlib.Numerals.{add-one}
 use lib.ListN.{length, length-set}
 use lib.Seq.{paste, paste-zero, paste-suc}
 use Rattle.rows.proofs.Words.{pasted}
-use borrow.Author.Rules.{rules}
 use Rattle.rows.proofs.put_list.Goals as goal
 
 pub loop-i-init : goal.loop-i-init

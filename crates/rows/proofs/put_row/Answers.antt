@@ -1,6 +1,5 @@
 -- Goals of `rows::put_row` that the search leaves.
 use Rattle.rows.specs.Rows.{listed}
-use borrow.Author.Rules.{rules}
 use Rattle.rows.proofs.put_row.Goals as goal
 
 pub returns : goal.returns

@@ -1,5 +1,4 @@
 -- Goals of `rows::put_var` that the search leaves.
-use borrow.Author.Rules.{rules}
 use Rattle.rows.proofs.put_var.Goals as goal
 
 pub returns : goal.returns

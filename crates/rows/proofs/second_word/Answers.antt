@@ -1,7 +1,6 @@
 -- Goals of `rows::second_word` that the search leaves.
 use mir.Syntax.{w32}
 use mir.ValLaws.{to_z-of_z}
-use borrow.Author.Rules.{rules}
 use Rattle.rows.proofs.second_word.Goals as goal
 
 pub returns-in-Range : goal.returns-in-Range

@@ -2,7 +2,6 @@
 use mathlib.Core.Path.{sym}
 use native.Mathlib.Omega.{arith}
 use Rattle.rows.proofs.Words.{signed_is, signed-over, lower-fits, lower-narrow, lower-signed}
-use borrow.Author.Rules.{rules}
 use Rattle.rows.proofs.signed.Goals as goal
 
 pub returns-then-w-lt2147483648 : goal.returns-then-w-lt2147483648

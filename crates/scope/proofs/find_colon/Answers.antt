@@ -1,8 +1,5 @@
 -- Goals of `scope::find_colon` that the search leaves.
-use Prim.Native.Nat.{◌-◌}
-use lib.ListN.{length}
-use borrow.Author.Rules.{rules}
-use Rattle.scope.proofs.Splitting.{Sought, sought-start, sought-more, sought-found, sought-none}
+use Rattle.scope.proofs.Splitting.{sought-start, sought-more, sought-found, sought-none}
 use Rattle.scope.proofs.find_colon.Goals as goal
 
 pub loop-i-init : goal.loop-i-init

@@ -1,7 +1,5 @@
 -- Goals of `scope::is_named` that the search leaves.
 use mathlib.Core.Path.{sym, ◌∙◌}
-use native.Mathlib.Omega.{arith}
-use borrow.Author.Rules.{rules}
 use lib.ListN.{length-take}
 use native.Mathlib.Nat.{min-eq_left}
 use Rattle.scope.proofs.is_named.Goals as goal

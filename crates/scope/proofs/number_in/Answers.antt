@@ -1,5 +1,4 @@
 -- Goals of `scope::number_in` that the search leaves.
-use borrow.Author.Rules.{rules}
 use Rattle.scope.specs.Index.{padded}
 use Rattle.scope.proofs.number_in.Goals as goal
 

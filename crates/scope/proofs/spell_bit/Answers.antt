@@ -1,5 +1,4 @@
 -- Goals of `scope::spell_bit` that the search leaves.
-use borrow.Author.Rules.{rules}
 use Rattle.scope.proofs.Spelling.{bit-spelled}
 use Rattle.scope.proofs.spell_bit.Goals as goal
 

@@ -1,5 +1,4 @@
 -- Goals of `scope::spell_range` that the search leaves.
-use borrow.Author.Rules.{rules}
 use Rattle.scope.proofs.Spelling.{range-spelled}
 use Rattle.scope.proofs.spell_range.Goals as goal
 

@@ -1,10 +1,7 @@
 -- Goals of `text::equals` that the search leaves.
-use Prim.Native.Nat.{◌-◌, ◌≤◌}
 use borrow.Author.Rules.{rules}
 use native.Mathlib.Omega.{arith}
-use mathlib.Core.Path.{◌≡◌, refl, sym, ◌∙◌}
-use lib.ListN.{length, drop}
-use Rattle.text.specs.Bytes.{equal}
+use mathlib.Core.Path.{refl, sym, ◌∙◌}
 use Rattle.text.proofs.Equal.{equal-short, equal-step, equal-stop, equal-done}
 use Rattle.text.proofs.equals.Goals as goal
 

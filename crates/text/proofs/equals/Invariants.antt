@@ -1,11 +1,8 @@
 -- What the loops of `text::equals` keep.
 use Prim.Native.Nat.{◌-◌, ◌≤◌}
-use borrow.Author.Rules.{rules}
-use native.Mathlib.Omega.{arith}
-use mathlib.Core.Path.{◌≡◌, refl, sym, ◌∙◌}
+use mathlib.Core.Path.{◌≡◌}
 use lib.ListN.{length, drop}
 use Rattle.text.specs.Bytes.{equal}
-use Rattle.text.proofs.Equal.{equal-short, equal-step, equal-stop, equal-done}
 use Rattle.text.proofs.equals.Given as goal
 
 abbrev pub invariant-loop-i : goal.invariant-loop-i

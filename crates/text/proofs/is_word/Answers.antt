@@ -1,5 +1,4 @@
 -- Goals of `text::is_word` that the search leaves.
-use borrow.Author.Rules.{rules}
 use Rattle.text.proofs.is_word.Goals as goal
 
 pub returns : goal.returns

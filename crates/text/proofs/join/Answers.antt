@@ -1,6 +1,5 @@
 -- Goals of `text::join` that the search leaves.
 use Rattle.text.specs.Texts.{text_in}
-use borrow.Author.Rules.{rules}
 use Rattle.text.proofs.join.Goals as goal
 
 pub returns : goal.returns

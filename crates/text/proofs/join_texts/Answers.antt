@@ -1,11 +1,10 @@
 -- Goals of `text::join_texts` that the search leaves.
-use Prim.Native.Nat.{◌-◌, ◌+◌, ◌<◌}
+use Prim.Native.Nat.{◌+◌}
 use mathlib.Core.Path.{◌≡◌}
 use mathlib.Core.List.{◌++◌}
 use lib.ListN.{length, length-append}
 use native.Mathlib.Omega.{arith}
-use borrow.Author.Rules.{rules}
-use Rattle.text.proofs.Rows.{Row, row-end, row-full, joined-row, joined_at, join_more}
+use Rattle.text.proofs.Rows.{row-end, row-full, joined-row, joined_at, join_more}
 use Rattle.text.proofs.join_texts.Goals as goal
 
 pub loop-n-init : goal.loop-n-init

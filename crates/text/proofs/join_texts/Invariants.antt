@@ -2,10 +2,8 @@
 use Prim.Native.Nat.{◌-◌, ◌+◌, ◌<◌}
 use mathlib.Core.Path.{◌≡◌}
 use mathlib.Core.List.{◌++◌}
-use lib.ListN.{length, length-append}
-use native.Mathlib.Omega.{arith}
-use borrow.Author.Rules.{rules}
-use Rattle.text.proofs.Rows.{Row, row-end, row-full, joined-row, joined_at, join_more}
+use lib.ListN.{length}
+use Rattle.text.proofs.Rows.{Row}
 use Rattle.text.proofs.join_texts.Given as goal
 
 abbrev pub invariant-loop-n : goal.invariant-loop-n

@@ -1,7 +1,6 @@
 -- Goals of `text::outside` that the search leaves.
 use mathlib.Core.Bool.{not}
 use mathlib.Core.Path.{sym, ap, ◌∙◌}
-use borrow.Author.Rules.{rules}
 use Rattle.text.proofs.Limit.{outside-long, outside-else}
 use Rattle.text.proofs.outside.Goals as goal
 

@@ -1,6 +1,5 @@
 -- Goals of `text::part` that the search leaves.
 use Rattle.text.proofs.Places.{part_none, part-rest, part-whole}
-use borrow.Author.Rules.{rules}
 use Rattle.text.proofs.part.Goals as goal
 
 pub returns-then-s-start : goal.returns-then-s-start

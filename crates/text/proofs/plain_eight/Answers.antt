@@ -1,7 +1,6 @@
 -- Goals of `text::plain_eight` that the search leaves.
 use Prim.Native.Nat.{◌<◌}
 use borrow.Author.Tests.{eqb-true}
-use borrow.Author.Rules.{rules}
 use Rattle.text.proofs.Counting.{eight-counted}
 use Rattle.text.proofs.plain_eight.Goals as goal
 

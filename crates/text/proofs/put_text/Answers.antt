@@ -1,9 +1,6 @@
 -- Goals of `text::put_text` that the search leaves.
-use Prim.Native.Nat.{◌-◌}
-use lib.ListN.{length}
-use borrow.Author.Rules.{rules}
 use native.Mathlib.Omega.{arith}
-use Rattle.text.proofs.Rows.{Copied, copy_start, copy-length, copy_more, copy_done, no_room}
+use Rattle.text.proofs.Rows.{copy_start, copy-length, copy_more, copy_done, no_room}
 use Rattle.text.proofs.put_text.Goals as goal
 
 pub returns-then-out-s : goal.returns-then-out-s

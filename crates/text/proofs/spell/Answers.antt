@@ -1,7 +1,5 @@
 -- Goals of `text::spell` that the search leaves.
-use Prim.Native.Nat.{◌-◌}
-use borrow.Author.Rules.{rules}
-use Rattle.text.proofs.Rows.{Row, row-start, row_more, row-end, row-full}
+use Rattle.text.proofs.Rows.{row-start, row_more, row-end, row-full}
 use Rattle.text.proofs.spell.Goals as goal
 
 pub loop-n-init : goal.loop-n-init

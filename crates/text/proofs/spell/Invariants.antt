@@ -1,7 +1,6 @@
 -- What the loops of `text::spell` keep.
 use Prim.Native.Nat.{◌-◌}
-use borrow.Author.Rules.{rules}
-use Rattle.text.proofs.Rows.{Row, row-start, row_more, row-end, row-full}
+use Rattle.text.proofs.Rows.{Row}
 use Rattle.text.proofs.spell.Given as goal
 
 abbrev pub invariant-loop-n : goal.invariant-loop-n

@@ -1,6 +1,5 @@
 -- Goals of `text::starts_with` that the search leaves.
 use Rattle.text.proofs.Equal.{starts_none, starts-byte}
-use borrow.Author.Rules.{rules}
 use Rattle.text.proofs.starts_with.Goals as goal
 
 pub returns-then-s-eq0 : goal.returns-then-s-eq0

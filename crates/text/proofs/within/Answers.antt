@@ -2,7 +2,6 @@
 use native.Mathlib.Omega.{arith}
 use mathlib.Core.Path.{sym}
 use Rattle.text.proofs.Places.{within-no, within-left}
-use borrow.Author.Rules.{rules}
 use Rattle.text.proofs.within.Goals as goal
 
 pub returns-then-s-start : goal.returns-then-s-start

@@ -1,10 +1,7 @@
 -- Goals of `utf8::ascii_end` that the search leaves.
-use Prim.Native.Nat.{◌-◌}
 use mathlib.Core.Path.{refl}
 use native.Mathlib.Omega.{arith}
-use borrow.Author.Rules.{rules}
-use lib.ListN.{length}
-use Rattle.utf8.proofs.WellFormed.{AsWhole, ascii-passed}
+use Rattle.utf8.proofs.WellFormed.{ascii-passed}
 use Rattle.utf8.proofs.ascii_end.Goals as goal
 
 pub loop-i-init : goal.loop-i-init

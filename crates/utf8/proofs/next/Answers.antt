@@ -1,5 +1,4 @@
 -- Goals of `utf8::next` that the search leaves.
-use borrow.Author.Rules.{rules}
 use Rattle.utf8.proofs.WellFormed.{lies_in, lies-below, lies-above, next-first, next-refused, next-taken}
 use Rattle.utf8.proofs.next.Goals as goal
 

@@ -1,8 +1,5 @@
 -- Goals of `utf8::valid` that the search leaves.
-use Prim.Native.Nat.{◌-◌}
-use borrow.Author.Rules.{rules}
-use lib.ListN.{length}
-use Rattle.utf8.proofs.WellFormed.{Read, read-start, read_more, read_done}
+use Rattle.utf8.proofs.WellFormed.{read-start, read_more, read_done}
 use Rattle.utf8.proofs.valid.Goals as goal
 
 pub ascii_end-i-requires : goal.ascii_end-i-requires

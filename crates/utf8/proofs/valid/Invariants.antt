@@ -1,8 +1,7 @@
 -- What the loops of `utf8::valid` keep.
 use Prim.Native.Nat.{◌-◌}
-use borrow.Author.Rules.{rules}
 use lib.ListN.{length}
-use Rattle.utf8.proofs.WellFormed.{Read, read-start, read_more, read_done}
+use Rattle.utf8.proofs.WellFormed.{Read}
 use Rattle.utf8.proofs.valid.Given as goal
 
 abbrev pub invariant-loop-i : goal.invariant-loop-i

@@ -1,6 +1,5 @@
 -- Goals of `white_space::blank_at` that the search leaves.
 use mathlib.Core.Path.{◌∙◌}
-use borrow.Author.Rules.{rules}
 use Rattle.white_space.proofs.Blank.{at_place}
 use Rattle.white_space.proofs.blank_at.Goals as goal
 

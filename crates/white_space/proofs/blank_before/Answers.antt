@@ -1,7 +1,6 @@
 -- Goals of `white_space::blank_before` that the search leaves.
 use mathlib.Core.Path.{◌∙◌}
 use native.Mathlib.Omega.{arith}
-use borrow.Author.Rules.{rules}
 use Rattle.white_space.proofs.Blank.{before-none}
 use Rattle.white_space.proofs.blank_before.Goals as goal
 

@@ -1,6 +1,5 @@
 -- Goals of `white_space::byte_at` that the search leaves.
 use mathlib.Core.Path.{sym}
-use borrow.Author.Rules.{rules}
 use lib.ListN.{get_or-eq_default}
 use Rattle.white_space.proofs.byte_at.Goals as goal
 

@@ -1,6 +1,5 @@
 -- Goals of `white_space::kept` that the search leaves.
-use borrow.Author.Rules.{rules}
-use Rattle.white_space.proofs.Trimming.{Cut, cut-start, cut-more, cut-last, cut_all}
+use Rattle.white_space.proofs.Trimming.{cut-start, cut-more, cut-last, cut_all}
 use Rattle.white_space.proofs.kept.Goals as goal
 
 pub loop-j-init : goal.loop-j-init

@@ -1,6 +1,5 @@
 -- What the loops of `white_space::kept` keep.
-use borrow.Author.Rules.{rules}
-use Rattle.white_space.proofs.Trimming.{Cut, cut-start, cut-more, cut-last, cut_all}
+use Rattle.white_space.proofs.Trimming.{Cut}
 use Rattle.white_space.proofs.kept.Given as goal
 
 abbrev pub invariant-loop-j : goal.invariant-loop-j

@@ -1,9 +1,6 @@
 -- Goals of `white_space::leading` that the search leaves.
-use Prim.Native.Nat.{◌-◌}
 use native.Mathlib.Omega.{arith}
-use borrow.Author.Rules.{rules}
-use lib.ListN.{length}
-use Rattle.white_space.proofs.Trimming.{Skipped, skip-start, skip-room, skip-more, skip-last, skip_all}
+use Rattle.white_space.proofs.Trimming.{skip-start, skip-room, skip-more, skip-last, skip_all}
 use Rattle.white_space.proofs.leading.Goals as goal
 
 pub loop-i-init : goal.loop-i-init

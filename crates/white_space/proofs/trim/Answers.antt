@@ -1,5 +1,4 @@
 -- Goals of `white_space::trim` that the search leaves.
-use borrow.Author.Rules.{rules}
 use Rattle.white_space.proofs.Trimming.{start-within, trim-nothing, trim-some}
 use Rattle.white_space.proofs.trim.Goals as goal
 

@@ -1,7 +1,6 @@
 -- Goals of `widen::is_widenable` that the search leaves.
 use mathlib.Core.Path.{sym, ◌∙◌}
 use Rattle.widen.proofs.Widening.{widenable-none, widenable-some}
-use borrow.Author.Rules.{rules}
 use Rattle.widen.proofs.is_widenable.Goals as goal
 
 pub returns-then-v-eq0 : goal.returns-then-v-eq0

@@ -1,9 +1,7 @@
 -- Goals of `widen::widen` that the search leaves.
 use mathlib.Core.Path.{refl, sym, ◌∙◌}
 use native.Mathlib.Omega.{arith}
-use borrow.Author.Tests.{not-true, not-false}
 use Rattle.widen.proofs.Widening.{widen-outside, widen-invalid, widen-no-room, widen-laid}
-use borrow.Author.Rules.{rules}
 use Rattle.widen.proofs.widen.Goals as goal
 
 pub returns-then-outside : goal.returns-then-outside

@@ -1,5 +1,4 @@
 -- Goals of `command::Refusal::number` that the search leaves.
-use borrow.Author.Rules.{rules}
 use Rattle.command.proofs.Refusal.number.Goals as goal
 
 pub returns-in-UnexpectedEof : goal.returns-in-UnexpectedEof

@@ -1,5 +1,4 @@
 -- Goals of `command::SimulationCommand::spell` that the search leaves.
-use borrow.Author.Rules.{rules}
 use Rattle.command.proofs.SimulationCommand.spell.Goals as goal
 
 pub returns-in-Dumpall : goal.returns-in-Dumpall

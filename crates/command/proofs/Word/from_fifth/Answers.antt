@@ -1,5 +1,4 @@
 -- Goals of `command::Word::from_fifth` that the search leaves.
-use borrow.Author.Rules.{rules}
 use Rattle.text.proofs.Names.{chain}
 use Rattle.command.proofs.Word.from_fifth.Goals as goal
 

@@ -1,5 +1,4 @@
 -- Goals of `command::Word::from_ninth` that the search leaves.
-use borrow.Author.Rules.{rules}
 use Rattle.text.proofs.Names.{chain}
 use Rattle.command.proofs.Word.from_ninth.Goals as goal
 

@@ -1,10 +1,8 @@
 -- Goals of `idcode::IdCode::from_str` that the search leaves.
 use native.Mathlib.Omega.{arith}
-use borrow.Author.Rules.{rules}
-use borrow.Author.Tests.{ltb-true, ltb-false}
-use mathlib.Core.Logic.{⊎_elim}
+use borrow.Author.Tests.{ltb-false}
 use Rattle.idcode.proofs.Laws.{low_byte, high_byte}
-use Rattle.idcode.proofs.Reading.{ReadFrom, read_none, read-start, read-bad, read-long, read_more, read_done, read_some}
+use Rattle.idcode.proofs.Reading.{read_none, read-start, read-bad, read-long, read_more, read_done, read_some}
 use Rattle.idcode.proofs.IdCode.from_str.Goals as goal
 use Rattle.idcode.proofs.IdCode.from_str.Goals.{then-b-lt33-via-then-b-lt33, then-b-lt33-via-else-b-lt33+then-b-gt126}
 

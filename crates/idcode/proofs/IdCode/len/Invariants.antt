@@ -1,12 +1,8 @@
 -- What the loops of `idcode::IdCode::len` keep.
 use Prim.Native.Nat.{◌+◌}
 use mathlib.Core.Path.{◌≡◌}
-use native.Mathlib.Omega.{arith}
-use borrow.Author.Rules.{rules}
 use lib.ListN.{length}
 use Rattle.idcode.specs.Id.{id_text}
-use Rattle.idcode.proofs.Laws.{text-length}
-use Rattle.idcode.proofs.Spelling.{length-one, length_more}
 use Rattle.idcode.proofs.IdCode.len.Given as goal
 
 abbrev pub invariant-loop-rest : goal.invariant-loop-rest

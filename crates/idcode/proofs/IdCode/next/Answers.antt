@@ -1,7 +1,6 @@
 -- Goals of `idcode::IdCode::next` that the search leaves.
 use borrow.Author.Tests.{eq-eqb, ne_eqb}
 use Rattle.idcode.specs.Id.{following}
-use borrow.Author.Rules.{rules}
 use Rattle.idcode.proofs.IdCode.next.Goals as goal
 
 pub returns-then-code : goal.returns-then-code

@@ -1,14 +1,12 @@
 -- Goals of `idcode::IdCode::put` that the search leaves.
 use Prim.Native.Nat.{◌≤◌}
-use mathlib.Core.Logic.{⊎_elim}
 use native.Mathlib.Omega.{arith}
-use borrow.Author.Rules.{rules}
-use borrow.Author.Tests.{ltb-true, ltb-false}
+use borrow.Author.Tests.{ltb-true}
 use lib.ListN.{length, length-set}
-use Rattle.text.proofs.Rows.{Copied, copy_start, copy-length, no_room}
+use Rattle.text.proofs.Rows.{copy_start, copy-length, no_room}
 use Rattle.idcode.specs.Id.{id_text}
 use Rattle.idcode.proofs.Laws.{text-length}
-use Rattle.idcode.proofs.Spelling.{Spelling, spell-start, inside, spell-more, copy-next, copied}
+use Rattle.idcode.proofs.Spelling.{spell-start, inside, spell-more, copy-next, copied}
 use Rattle.idcode.proofs.IdCode.put.Goals as goal
 use Rattle.idcode.proofs.IdCode.put.Goals.{else-out-lt10-via-then-out-lt10+else-out-len, else-out-lt10-via-else-out-lt10}
 

@@ -1,9 +1,7 @@
 -- Goals of `idcode::IdCode::spell` that the search leaves.
 use native.Mathlib.Omega.{arith}
-use borrow.Author.Rules.{rules}
-use Rattle.text.proofs.Rows.{Row, row-start}
-use Rattle.idcode.specs.Id.{id_text}
-use Rattle.idcode.proofs.Spelling.{Spelling, spell-start, inside, spell-more, row_next, row_done}
+use Rattle.text.proofs.Rows.{row-start}
+use Rattle.idcode.proofs.Spelling.{spell-start, inside, spell-more, row_next, row_done}
 use Rattle.idcode.proofs.IdCode.spell.Goals as goal
 
 pub loop-rest-init : goal.loop-rest-init

@@ -1,9 +1,7 @@
 -- What the loops of `idcode::IdCode::spell` keep.
-use native.Mathlib.Omega.{arith}
-use borrow.Author.Rules.{rules}
-use Rattle.text.proofs.Rows.{Row, row-start}
+use Rattle.text.proofs.Rows.{Row}
 use Rattle.idcode.specs.Id.{id_text}
-use Rattle.idcode.proofs.Spelling.{Spelling, spell-start, inside, spell-more, row_next, row_done}
+use Rattle.idcode.proofs.Spelling.{Spelling}
 use Rattle.idcode.proofs.IdCode.spell.Given as goal
 
 abbrev pub invariant-loop-rest : goal.invariant-loop-rest

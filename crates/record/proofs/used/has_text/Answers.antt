@@ -1,25 +1,25 @@
 -- Goals of `record::used::has_text` that the search leaves.
-use mathlib.Core.Logic.{⊎_elim}
-use mathlib.Core.Path.{◌≡◌, ◌∙◌}
-use mathlib.Core.Bool.{◌||◌}
-use borrow.Author.Tests.{le-leb, lt-leb}
-use lib.Dec.{eqb, leb}
+use mathlib.Core.Path.{◌≡◌}
+use native.Mathlib.Omega.{arith}
+use borrow.Author.Tests.{eq-eqb, ne_eqb, le-leb, lt-leb}
 use Rattle.record.specs.Used.{has_text}
 use Rattle.record.proofs.used.has_text.Goals as goal
-use Rattle.record.proofs.used.has_text.Goals.{Joined-kind-le-VERSION}
-
--- the first two tests
-first : (c : Joined-kind-le-VERSION) → c.if-kind-le-VERSION.t-3 ≡ (leb c.args.kind 3 || eqb c.args.kind 5)
-first c = ⊎_elim (λ h. h.1 ∙ rw (le-leb _ 3 h.0.taken)) (λ h. h.1 ∙ rw (lt-leb _ 3 h.0.left)) c.if-kind-le-VERSION.branch
+use Rattle.record.proofs.used.has_text.Goals.{then-kind-le-VERSION, else-kind-le-VERSION}
 
 pub returns-then-kind-eq-SCOPE : goal.returns-then-kind-eq-SCOPE
 unfolding has_text
-returns-then-kind-eq-SCOPE c = rw (← first (goal.at.returns-then-kind-eq-SCOPE c).Joined-kind-le-VERSION, c.if-kind-eq-SCOPE.true-raw)
+returns-then-kind-eq-SCOPE c =
+    elim c.if-kind-le-VERSION.branch [
+    | then-kind-le-VERSION w ↦ rw (w.t-3-is, le-leb _ 3 w.if-kind-le-VERSION.true)
+    | else-kind-le-VERSION w ↦
+      let is : c.args.kind ≡ 5 = omega arith in
+      rw (w.t-3-is, lt-leb _ 3 w.if-kind-le-VERSION.false, eq-eqb _ 5 is)
+    ]
 
 pub returns-then-kind-ge-VECTOR : goal.returns-then-kind-ge-VECTOR
 unfolding has_text
-returns-then-kind-ge-VECTOR c = rw (← first (goal.at.returns-then-kind-ge-VECTOR c).Joined-kind-le-VERSION, c.if-kind-eq-SCOPE.false-raw, le-leb 11 _ c.if-kind-ge-VECTOR.true)
+returns-then-kind-ge-VECTOR c = rw (lt-leb _ 3 c.if-kind-eq-SCOPE.false.0, ne_eqb _ 5 c.if-kind-eq-SCOPE.false.1, le-leb 11 _ c.if-kind-ge-VECTOR.true)
 
 pub returns-else-kind-ge-VECTOR : goal.returns-else-kind-ge-VECTOR
 unfolding has_text
-returns-else-kind-ge-VECTOR c = rw (← first (goal.at.returns-else-kind-ge-VECTOR c).Joined-kind-le-VERSION, c.if-kind-eq-SCOPE.false-raw, lt-leb 11 _ c.if-kind-ge-VECTOR.false)
+returns-else-kind-ge-VECTOR c = rw (lt-leb _ 3 c.if-kind-eq-SCOPE.false.0, ne_eqb _ 5 c.if-kind-eq-SCOPE.false.1, lt-leb 11 _ c.if-kind-ge-VECTOR.false)

@@ -1,37 +1,48 @@
 -- Goals of `record::used::is_used` that the search leaves.
-use mathlib.Core.Logic.{⊎_elim}
+use Prim.Native.Nat.{ℕ}
+use mathlib.Core.Logic.{⊥, ◌⊎◌, ⊎_elim, absurd}
 use mathlib.Core.Path.{◌≡◌, sym, ◌∙◌}
-use mathlib.Core.Bool.{true, ◌&&◌, ◌||◌}
+use mathlib.Core.Bool.{true, false, ◌&&◌, ◌||◌}
 use borrow.Author.Tests.{le-leb, lt-leb, eq-eqb, ne_eqb, ltb-true, ltb-false, not-true, not-false}
 use lib.Dec.{eqb}
 use Rattle.record.specs.Used.{has_code, is_used}
 use borrow.Author.Rules.{rules}
 use Rattle.record.proofs.used.is_used.Goals as goal
-use Rattle.record.proofs.used.is_used.Goals.{Joined-else-w-ne0, Joined-w-eq0}
+use Rattle.record.proofs.used.is_used.Goals.{then-kind-lt-COMMENT-via-then-kind-lt-COMMENT, then-kind-lt-COMMENT-via-else-kind-lt-COMMENT+then-kind-gt-END}
+use Rattle.record.proofs.used.is_used.Goals.{Joined-else-w-ne0, else-w-ne0-via-then-w-ne0+else-not-has_code, else-w-ne0-via-else-w-ne0, then-w-eq0, else-w-eq0}
 
 -- the code is 0, or the kind has one
 code : (c : Joined-else-w-ne0) → let w = c.args.w in (eqb w.code 0 || has_code w.kind) ≡ true
 code c =
-    ⊎_elim (λ h. rw (ne_eqb _ 0 h.0.taken) (sym h.1.ensures ∙ not-false _ h.2.left)) (λ h. rw (eq-eqb _ 0 h.left)) c.else-w-ne0.branch
+    elim c.else-w-ne0.branch [
+    | else-w-ne0-via-then-w-ne0+else-not-has_code w ↦
+      rw (ne_eqb _ 0 w.if-w-ne0.true) (sym w.has_code.ensures ∙ w.if-not-has_code.false)
+    | else-w-ne0-via-else-w-ne0 w ↦ rw (eq-eqb _ 0 w.if-w-ne0.false)
+    ]
 
--- whether start and length are 0
-text : (c : Joined-w-eq0) → let w = c.args.w in c.if-w-eq0.t-11 ≡ (eqb w.start 0 && eqb w.len 0)
-text c = ⊎_elim (λ h. rw (eq-eqb _ 0 h.0.taken) h.2) (λ h. h.1 ∙ rw (ne_eqb _ 0 h.0.left)) c.if-w-eq0.branch
+-- start and length are not both 0
+some : (s l : ℕ) → ((s ≡ 0 → ⊥) ⊎ (s ≡ 0 × (l ≡ 0 → ⊥))) → (eqb s 0 && eqb l 0) ≡ false
+some s l e = ⊎_elim (λ h. rw (ne_eqb s 0 h)) (λ h. rw (eq-eqb s 0 h.0, ne_eqb l 0 h.1)) e
 
 pub returns-then-kind-lt-COMMENT : goal.returns-then-kind-lt-COMMENT
 unfolding is_used
-returns-then-kind-lt-COMMENT c = ⊎_elim (λ h. rw (lt-leb 1 _ h.taken)) (λ h. rw (le-leb 1 _ h.0.left, lt-leb _ 15 (ltb-true 15 _ h.1.taken))) c.then-kind-lt-COMMENT.branch
+returns-then-kind-lt-COMMENT c =
+    elim c.then-kind-lt-COMMENT.branch [
+    | then-kind-lt-COMMENT-via-then-kind-lt-COMMENT w ↦ rw (lt-leb 1 _ w.if-kind-lt-COMMENT.true)
+    | then-kind-lt-COMMENT-via-else-kind-lt-COMMENT+then-kind-gt-END w ↦
+      rw (le-leb 1 _ w.if-kind-lt-COMMENT.false, lt-leb _ 15 w.if-kind-gt-END.true)
+    ]
 
 pub returns-then-number_most-w : goal.returns-then-number_most-w
 unfolding is_used
-returns-then-number_most-w c = rw (le-leb 1 _ c.if-kind-lt-COMMENT.false, le-leb _ 15 (ltb-false 15 _ c.if-kind-gt-END.false-raw), ← c.number_most.ensures, lt-leb _ _ c.if-number_most-w.true)
+returns-then-number_most-w c = rw (le-leb 1 _ c.if-kind-lt-COMMENT.false, le-leb _ 15 c.if-kind-gt-END.false, ← c.number_most.ensures, lt-leb _ _ c.if-number_most-w.true)
 
 pub returns-then-amount_most-w : goal.returns-then-amount_most-w
 unfolding is_used
 returns-then-amount_most-w c =
     rw (
       le-leb 1 _ c.if-kind-lt-COMMENT.false,
-      le-leb _ 15 (ltb-false 15 _ c.if-kind-gt-END.false-raw),
+      le-leb _ 15 c.if-kind-gt-END.false,
       ← c.number_most.ensures,
       le-leb _ _ c.if-number_most-w.false,
       ← c.amount_most.ensures,
@@ -43,7 +54,7 @@ unfolding is_used
 returns-then-not-has_code c =
     rw (
       le-leb 1 _ c.if-kind-lt-COMMENT.false,
-      le-leb _ 15 (ltb-false 15 _ c.if-kind-gt-END.false-raw),
+      le-leb _ 15 c.if-kind-gt-END.false,
       ← c.number_most.ensures,
       le-leb _ _ c.if-number_most-w.false,
       ← c.amount_most.ensures,
@@ -58,28 +69,31 @@ unfolding is_used
 returns-then-w-eq0-2 c =
     rw (
       le-leb 1 _ c.if-kind-lt-COMMENT.false,
-      le-leb _ 15 (ltb-false 15 _ c.if-kind-gt-END.false-raw),
+      le-leb _ 15 c.if-kind-gt-END.false,
       ← c.number_most.ensures,
       le-leb _ _ c.if-number_most-w.false,
       ← c.amount_most.ensures,
       le-leb _ _ c.if-amount_most-w.false,
       code (goal.at.returns-then-w-eq0-2 c).Joined-else-w-ne0,
-      ← text (goal.at.returns-then-w-eq0-2 c).Joined-w-eq0,
-      c.if-w-eq0-2.true-raw,
+      eq-eqb _ 0 c.if-w-eq0-2.true.0,
+      eq-eqb _ 0 c.if-w-eq0-2.true.1,
     )
+    (elim c.if-w-eq0.branch [
+    | then-w-eq0 w ↦ w.t-11-is ∙ eq-eqb _ 0 c.if-w-eq0-2.true.1
+    | else-w-eq0 w ↦ absurd (w.if-w-eq0.false c.if-w-eq0-2.true.0)
+    ])
 
 pub returns-else-w-eq0-2 : goal.returns-else-w-eq0-2
 unfolding is_used
 returns-else-w-eq0-2 c =
     rw (
       le-leb 1 _ c.if-kind-lt-COMMENT.false,
-      le-leb _ 15 (ltb-false 15 _ c.if-kind-gt-END.false-raw),
+      le-leb _ 15 c.if-kind-gt-END.false,
       ← c.number_most.ensures,
       le-leb _ _ c.if-number_most-w.false,
       ← c.amount_most.ensures,
       le-leb _ _ c.if-amount_most-w.false,
       code (goal.at.returns-else-w-eq0-2 c).Joined-else-w-ne0,
-      ← text (goal.at.returns-else-w-eq0-2 c).Joined-w-eq0,
-      c.if-w-eq0-2.false-raw,
+      some c.args.w.start c.args.w.len c.if-w-eq0-2.either,
     )
     c.has_text.ensures

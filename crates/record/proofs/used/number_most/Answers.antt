@@ -29,10 +29,10 @@ unfolding number_most
 returns-in-10 c = rw c.in-10.is
 
 pub returns-in-14 : goal.returns-in-14
-returns-in-14 c = late _ c.if-kind-lt14.false c.in-14.if-kind-lt16-own.true
+returns-in-14 c = late _ (omega arith) (omega arith)
 
 pub returns-in_default : goal.returns-in_default
-returns-in_default c = other _ c.in_default-1.rest.0.0.1 c.in_default-1.rest.0.1 c.in_default-1.rest.1 (λ e. omega (arith, c.in_default.if-kind-lt14-own.true)) (λ e. omega (arith, c.in_default.if-kind-lt14-own.true))
+returns-in_default c = other _ (λ e. omega arith) (λ e. omega arith) (λ e. omega arith) (λ e. omega arith) (λ e. omega arith)
 
 pub returns-in_default-2 : goal.returns-in_default-2
-returns-in_default-2 c = other _ c.in_default-1.rest.0.0.1 c.in_default-1.rest.0.1 c.in_default-1.rest.1 (λ e. omega (arith, c.in_default.if-kind-lt16-own.false)) (λ e. omega (arith, c.in_default.if-kind-lt16-own.false))
+returns-in_default-2 c = other _ (λ e. omega arith) (λ e. omega arith) (λ e. omega arith) (λ e. omega arith) (λ e. omega arith)

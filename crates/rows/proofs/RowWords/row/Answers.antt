@@ -1,7 +1,6 @@
 -- Goals of `rows::RowWords::row` that the search leaves.
 use mathlib.Core.Path.{sym, ◌∙◌}
 use Rattle.rows.proofs.Peeking.{is-scope, is-var, is-comment, is_none}
-use borrow.Author.Rules.{rules}
 use Rattle.rows.proofs.RowWords.row.Goals as goal
 
 pub var-requires : goal.var-requires

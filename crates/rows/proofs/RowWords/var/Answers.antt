@@ -1,5 +1,4 @@
 -- Goals of `rows::RowWords::var` that the search leaves.
-use borrow.Author.Rules.{rules}
 use Rattle.rows.proofs.RowWords.var.Goals as goal
 
 pub returns : goal.returns

@@ -7,7 +7,6 @@ use borrow.Author.Tests.{lt-ltb, le-ltb}
 use Rattle.rows.specs.Rows.{row_of, row_at}
 use Rattle.rows.specs.Peek.{kind_of}
 use Rattle.rows.specs.declared.RowWords.{RowWords}
-use borrow.Author.Rules.{rules}
 use Rattle.rows.proofs.peek.kind_at.Goals as goal
 
 pub returns-then-rows-i : goal.returns-then-rows-i

@@ -1,7 +1,6 @@
 -- Goals of `scope::ReferenceIndex::from_inside` that the search leaves.
 use mathlib.Core.Path.{refl, sym, ◌∙◌}
 use native.Mathlib.Omega.{arith}
-use borrow.Author.Rules.{rules}
 use Rattle.scope.proofs.Splitting.{colon-front, colon-within, inside-bit, inside-range, padded-held}
 use Rattle.scope.proofs.ReferenceIndex.from_inside.Goals as goal
 

@@ -1,6 +1,5 @@
 -- Goals of `scope::ReferenceIndex::from_str` that the search leaves.
 use mathlib.Core.Path.{◌∙◌}
-use borrow.Author.Rules.{rules}
 use Rattle.scope.proofs.Splitting.{index_short, index-unopened, index-unclosed, index-inside}
 use Rattle.scope.proofs.ReferenceIndex.from_str.Goals as goal
 

@@ -2,7 +2,6 @@
 use native.Mathlib.Omega.{arith}
 use mir.Syntax.{w32}
 use mir.ValLaws.{to_z-of_z}
-use borrow.Author.Rules.{rules}
 use Rattle.scope.proofs.ReferenceIndex.spell.Goals as goal
 
 pub returns-in-None : goal.returns-in-None

@@ -1,5 +1,4 @@
 -- Goals of `scope::ScopeType::from_str` that the search leaves.
-use borrow.Author.Rules.{rules}
 use Rattle.text.proofs.Names.{chain}
 use Rattle.scope.specs.Types.{parse_scope_type}
 use Rattle.scope.proofs.ScopeType.from_str.Goals as goal

@@ -1,5 +1,4 @@
 -- Goals of `scope::ScopeType::spell` that the search leaves.
-use borrow.Author.Rules.{rules}
 use Rattle.scope.proofs.ScopeType.spell.Goals as goal
 
 pub returns-in-Module : goal.returns-in-Module

@@ -1,14 +1,11 @@
 -- Goals of `scope::VarType::from_str` that the search leaves.
-use borrow.Author.Rules.{rules}
-use Prim.Native.Nat.{ℕ, ◌-◌, ◌≤◌}
-use native.Mathlib.Omega.{arith}
-use mathlib.Core.List.{List}
-use mathlib.Core.Path.{◌≡◌, ap, sym, ◌∙◌, subst}
+use Prim.Native.Nat.{◌≤◌}
+use mathlib.Core.Path.{ap, sym, ◌∙◌, subst}
 use lib.ListN.{length, take}
 use Rattle.text.specs.Bytes.{equal}
 use Rattle.scope.specs.declared.VarName.{VarName}
 use Rattle.scope.specs.declared.ParsedVarType.{ParsedVarType}
-use Rattle.scope.proofs.VarNames.{Sought, sought-start, sought-found, sought-more, sought-none, listed, entry-long, entry-text}
+use Rattle.scope.proofs.VarNames.{sought-start, sought-found, sought-more, sought-none, listed, entry-long, entry-text}
 use Rattle.scope.proofs.VarType.from_str.Goals as goal
 
 pub is_named-requires : goal.is_named-requires

@@ -1,5 +1,4 @@
 -- Goals of `scope::VarType::number` that the search leaves.
-use borrow.Author.Rules.{rules}
 use Rattle.scope.proofs.VarType.number.Goals as goal
 
 pub returns-in-Event : goal.returns-in-Event

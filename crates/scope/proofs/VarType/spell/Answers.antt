@@ -1,8 +1,6 @@
 -- Goals of `scope::VarType::spell` that the search leaves.
-use borrow.Author.Rules.{rules}
 use Prim.Native.Nat.{ℕ, ◌≤◌, ◌<◌}
 use native.Mathlib.Omega.{arith}
-use mathlib.Core.List.{List}
 use mathlib.Core.Path.{◌≡◌, ap, sym, ◌∙◌, subst}
 use lib.ListN.{length, take}
 use Rattle.text.specs.Texts.{spelled}

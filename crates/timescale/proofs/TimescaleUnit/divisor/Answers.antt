@@ -1,5 +1,4 @@
 -- Goals of `timescale::TimescaleUnit::divisor` that the search leaves.
-use borrow.Author.Rules.{rules}
 use Rattle.timescale.proofs.TimescaleUnit.divisor.Goals as goal
 
 pub returns-in-S : goal.returns-in-S

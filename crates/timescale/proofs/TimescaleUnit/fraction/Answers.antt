@@ -1,5 +1,4 @@
 -- Goals of `timescale::TimescaleUnit::fraction` that the search leaves.
-use borrow.Author.Rules.{rules}
 use Rattle.timescale.proofs.Units.{second_fits, one-is}
 use Rattle.timescale.proofs.TimescaleUnit.fraction.Goals as goal
 

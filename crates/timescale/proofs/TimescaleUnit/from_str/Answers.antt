@@ -1,5 +1,4 @@
 -- Goals of `timescale::TimescaleUnit::from_str` that the search leaves.
-use borrow.Author.Rules.{rules}
 use Rattle.timescale.specs.Units.{parse_unit}
 use Rattle.text.proofs.Names.{chain}
 use Rattle.timescale.proofs.TimescaleUnit.from_str.Goals as goal

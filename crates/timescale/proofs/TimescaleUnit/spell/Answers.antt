@@ -1,5 +1,4 @@
 -- Goals of `timescale::TimescaleUnit::spell` that the search leaves.
-use borrow.Author.Rules.{rules}
 use Rattle.timescale.proofs.TimescaleUnit.spell.Goals as goal
 
 pub returns-in-S : goal.returns-in-S

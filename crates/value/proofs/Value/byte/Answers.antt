@@ -1,5 +1,4 @@
 -- Goals of `value::Value::byte` that the search leaves.
-use borrow.Author.Rules.{rules}
 use Rattle.value.proofs.Value.byte.Goals as goal
 
 pub returns-in-V0 : goal.returns-in-V0

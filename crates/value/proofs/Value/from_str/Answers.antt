@@ -1,6 +1,5 @@
 -- Goals of `value::Value::from_str` that the search leaves.
 use mathlib.Core.Path.{◌∙◌}
-use borrow.Author.Rules.{rules}
 use Rattle.value.proofs.Values.{text-one, text-other}
 use Rattle.value.proofs.Value.from_str.Goals as goal
 

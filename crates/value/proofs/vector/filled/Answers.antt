@@ -1,9 +1,7 @@
 -- Goals of `value::vector::filled` that the search leaves.
-use Prim.Native.Nat.{◌-◌}
 use native.Mathlib.Omega.{arith}
-use borrow.Author.Rules.{rules}
-use lib.ListN.{replicate, length-replicate}
-use Rattle.text.proofs.Rows.{Copied, copy-length, no_room}
+use lib.ListN.{length-replicate}
+use Rattle.text.proofs.Rows.{copy-length, no_room}
 use Rattle.value.proofs.Vectors.{fill_start, fill_more, fill_done}
 use Rattle.value.proofs.vector.filled.Goals as goal
 

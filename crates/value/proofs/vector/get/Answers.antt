@@ -1,7 +1,6 @@
 -- Goals of `value::vector::get` that the search leaves.
 use mathlib.Core.Path.{sym, ◌∙◌}
 use native.Mathlib.Omega.{arith}
-use borrow.Author.Rules.{rules}
 use Rattle.value.proofs.Vectors.{bit-at, bit-end}
 use Rattle.value.proofs.vector.get.Goals as goal
 

@@ -1,10 +1,6 @@
 -- Goals of `value::vector::is_vector` that the search leaves.
-use Prim.Native.Nat.{◌-◌, ◌≤◌}
-use mathlib.Core.Path.{◌≡◌, refl, sym, ◌∙◌}
+use mathlib.Core.Path.{refl, sym, ◌∙◌}
 use borrow.Author.Rules.{rules}
-use borrow.Author.Tests.{not-true, not-false}
-use lib.ListN.{length, drop}
-use Rattle.value.specs.Values.{are_values}
 use Rattle.value.proofs.Vectors.{values-more, values-stop, values-done}
 use Rattle.value.proofs.vector.is_vector.Goals as goal
 

@@ -1,11 +1,8 @@
 -- What the loops of `value::vector::is_vector` keep.
 use Prim.Native.Nat.{◌-◌, ◌≤◌}
-use mathlib.Core.Path.{◌≡◌, refl, sym, ◌∙◌}
-use borrow.Author.Rules.{rules}
-use borrow.Author.Tests.{not-true, not-false}
+use mathlib.Core.Path.{◌≡◌}
 use lib.ListN.{length, drop}
 use Rattle.value.specs.Values.{are_values}
-use Rattle.value.proofs.Vectors.{values-more, values-stop, values-done}
 use Rattle.value.proofs.vector.is_vector.Given as goal
 
 abbrev pub invariant-loop-i : goal.invariant-loop-i

@@ -1,11 +1,7 @@
 -- Goals of `value::vector::write_lower` that the search leaves.
-use Prim.Native.Nat.{◌-◌}
 use mathlib.Core.Path.{sym, ◌∙◌}
 use native.Mathlib.Omega.{arith}
-use borrow.Author.Rules.{rules}
-use borrow.Author.Tests.{not-true, not-false}
-use lib.ListN.{length}
-use Rattle.value.proofs.Vectors.{Lowered, lower-invalid, lower-no-room, lower-start, lower-length, lower-more, lower-done}
+use Rattle.value.proofs.Vectors.{lower-invalid, lower-no-room, lower-start, lower-length, lower-more, lower-done}
 use Rattle.value.proofs.vector.write_lower.Goals as goal
 
 pub returns-then-not-is_vector : goal.returns-then-not-is_vector

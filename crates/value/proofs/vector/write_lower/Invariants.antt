@@ -1,11 +1,7 @@
 -- What the loops of `value::vector::write_lower` keep.
 use Prim.Native.Nat.{◌-◌}
-use mathlib.Core.Path.{sym, ◌∙◌}
-use native.Mathlib.Omega.{arith}
-use borrow.Author.Rules.{rules}
-use borrow.Author.Tests.{not-true, not-false}
 use lib.ListN.{length}
-use Rattle.value.proofs.Vectors.{Lowered, lower-invalid, lower-no-room, lower-start, lower-length, lower-more, lower-done}
+use Rattle.value.proofs.Vectors.{Lowered}
 use Rattle.value.proofs.vector.write_lower.Given as goal
 
 abbrev pub invariant-loop-i : goal.invariant-loop-i
