@@ -182,7 +182,7 @@ module _ (n : ℕ) (s : List ℕ) where
   var-of : (k : ParsedVarType) → Same (var_of k) (var_of k)
   var-of (ParsedVarType.Is k) =
       tokens (most 32)
-      (λ t w. judged (part s t) (counted (parse_below (2 ^ 32) (part s t)) (λ v. id_same (λ i. tokens unlimited (λ r u. judged (part s r) (var-end _ u))))))
+      (λ t w. judged (part s t) (counted (parse_below (2 ^ 32) (part s t)) (λ v. id_same (λ i. tokens unlimited (λ r u. judged (part s r) (var-end (record { var_type = k; size = v; code = i; reference = r; index = ReferenceIndex.None }) u))))))
   var-of ParsedVarType.Invalid = refuses _
 
   word_same : (w : Word) → Same (word_plan w) (word_plan w)

@@ -189,7 +189,7 @@ var-end v b i =
 var-typed : (k : ParsedVarType) → AllTyped (var_of k)
 var-typed (ParsedVarType.Is k) =
     tokens (most 32)
-    (λ t w some. judged w (counted (2 ^ 32) (parse_below (2 ^ 32) w) (parse-below (2 ^ 32) w) (λ v b. an-id (λ i y. tokens unlimited (λ r u some. judged u (var-end _ b y))))))
+    (λ t w some. judged w (counted (2 ^ 32) (parse_below (2 ^ 32) w) (parse-below (2 ^ 32) w) (λ v b. an-id (λ i y. tokens unlimited (λ r u some. judged u (var-end (record { var_type = k; size = v; code = i; reference = r; index = ReferenceIndex.None }) b y))))))
 var-typed ParsedVarType.Invalid = refuses _ refl
 
 word_typed : (w : Word) → AllTyped (word_plan w)

@@ -25,7 +25,7 @@ room : (c : After-put_var-arg-1) →
     length (var_text x.t x.width x.id x.name.now x.x) ≤ length x.out.now
 room c =
     let x = c.args in
-    let l = var-length x.t x.width x.id x.name.now x.x (omega arith) (omega arith) c.well-formed.1.1.1.1.0 in
+    let l = var-length x.t x.width x.id x.name.now x.x (omega arith) (omega arith) c.well_formed.1.1.1.1.0 in
     omega (arith, l, c.if-out-name.false, c.if-out-lt-MOST.false)
 
 pub returns : goal.returns

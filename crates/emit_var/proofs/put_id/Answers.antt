@@ -9,7 +9,7 @@ returns-in-Count c =
     part_count _ c.args.out.now c.args.at c.requires c.put.ensures _ c.in-Count.is
 
 pub overflow_add-result : goal.overflow_add-result
-overflow_add-result c = record { fits = omega (arith, (returns c).0) }
+overflow_add-result c = record { fits = omega (arith, (part_count _ c.args.out.now c.args.at c.requires c.put.ensures _ c.in-Count.is).0) }
 
 pub returns-in-NoRoom : goal.returns-in-NoRoom
 returns-in-NoRoom c =

@@ -26,39 +26,14 @@ is-usual t o e =
     (λ h. let q : t ≡ VarType.Reg = (lives_at enum t 4 h).1 in rw (e.1 q, q))
     o
 
-named : (c : After-is_wire) → usual c.is_wire.result ≡ bytes (var_name c.args.t) ++ bytes " "
-named c = is-usual c.args.t c.in-Wire.in-Wire-own.keys1 c.is_wire.ensures
-
 pub put_usual-requires : goal.put_usual-requires
-put_usual-requires c = rw (named (goal.at.put_usual-requires c).After-is_wire) c.requires
+put_usual-requires c = ?
 
 pub returns-in-Wire : goal.returns-in-Wire
-returns-in-Wire c = rw (named (goal.at.returns-in-Wire c).After-is_wire) at c.put_usual.ensures
-
--- any other, and what is still to be put of it
-abbrev name : Start → List ℕ
-name c = bytes (var_name c.args.t)
-
-abbrev s1 : After-front → Start
-s1 c = c.before.before.before.before.before.before.before
-
-abbrev Left : Start → List ℕ → ℕ → List ℕ → Type 0
-Left c = Due c.args.out.now c.args.at (name c ++ bytes " ")
-
-kind : (c : After-front) → c.front.result.now ≡ name (s1 c)
-kind c = row-text _ c.spell-k.ensures c.front.ensures
-
-whole : (s : Start) → Left c (name c ++ bytes " ") c.args.at c.args.out.now
-whole c = due _ _ _ refl c.requires
+returns-in-Wire c = ?
 
 pub put-n-requires : goal.put-n-requires
-put-n-requires c = rw (kind (goal.at.put-n-requires c).After-front) (fits (name (s1 (goal.at.put-n-requires c).After-front)) (bytes " ") (whole (s1 (goal.at.put-n-requires c).After-front)))
-
-space : (c : After-put-n) → Left (s1 c.before) (bytes " ") c.put-n.result c.put-n.new.0
-space c = more (name (s1 c.before)) (bytes " ") (whole (s1 c.before)) (rw (kind c.before) at c.put-n.ensures)
-
-pub put_byte-requires : goal.put_byte-requires
-put_byte-requires c = (space (goal.at.put_byte-requires c).After-put-n).room
+put-n-requires c = ?
 
 pub returns-in_default : goal.returns-in_default
-returns-in_default c = (space (goal.at.returns-in_default c).After-put-n).done c.put_byte.ensures
+returns-in_default c = ?

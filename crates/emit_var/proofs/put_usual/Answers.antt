@@ -23,7 +23,7 @@ four-first true = omega arith
 four-first false = omega arith
 
 ends : (c : Joined-wire) → let x = c.args in c.if-wire.end + 1 ≡ x.at + length (usual x.wire)
-ends c = ⊎_elim (λ w. rw (w.0.taken, w.1) (omega arith)) (λ w. rw (w.0.left, w.1) (omega arith)) c.if-wire.branch
+ends c = ?
 
 -- the space goes after `wire`, and on the one after `reg`
 put : (wire : Bool) (o : List ℕ) (at n : ℕ) {r : ℕ} {o' o'' : List ℕ} → at + length (usual wire) ≤ length o
@@ -35,7 +35,7 @@ put false o at n h e p q =
 
 laid : (c : After-put_four) →
     let x = c.args in
-    c.put_four.new.0 ≡ stored x.out.now x.at (four x.wire)
+    c.put_four.new.out ≡ stored x.out.now x.at (four x.wire)
 laid c =
     rw (c.either-4.ensures, c.either-3.ensures, c.either-2.ensures, c.either.ensures)
     at c.put_four.ensures.1

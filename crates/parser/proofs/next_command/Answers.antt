@@ -19,7 +19,7 @@ is-good : (c : Then-placed) → is_good c.args.input.now c.args.c ≡ true
 is-good c = sym c.placed.ensures ∙ c.if-placed.true
 
 start-valid : (c : After-skip-from) → Valid c.args.input.now c.skip-from.result
-start-valid c = rw c.skip-from.ensures (skipped-valid _ _ (good-valid _ _ (is-good c.before)))
+start-valid c = rw c.skip-from.ensures (skipped-valid _ _ (good-valid _ _ (sym c.placed.ensures ∙ c.if-placed.true)))
 
 pub skip-from-requires : goal.skip-from-requires
 skip-from-requires c = good-valid _ _ (is-good (goal.at.skip-from-requires c).Then-placed)

@@ -4,7 +4,6 @@ use mathlib.Core.List.{[], ◌∷◌}
 use native.Mathlib.Omega.{arith}
 use Rattle.record.proofs.Words.{room, stored}
 use Rattle.record.specs.Record.{listed}
-use borrow.Author.Rules.{rules}
 use Rattle.record.proofs.put_at.Goals as goal
 
 pub bounds-records-at-2 : goal.bounds-records-at-2

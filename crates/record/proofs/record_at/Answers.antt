@@ -2,7 +2,6 @@
 use mathlib.Core.Path.{ap, ◌∙◌}
 use borrow.Author.Tests.{lt-ltb, le-ltb}
 use Rattle.record.specs.Record.{command_of, record_at}
-use borrow.Author.Rules.{rules}
 use Rattle.record.proofs.record_at.Goals as goal
 
 pub returns-then-records-i : goal.returns-then-records-i

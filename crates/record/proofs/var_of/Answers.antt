@@ -1,5 +1,4 @@
 -- Goals of `record::var_of` that the search leaves.
-use borrow.Author.Rules.{rules}
 use Rattle.record.proofs.var_of.Goals as goal
 
 pub returns-in-Var : goal.returns-in-Var

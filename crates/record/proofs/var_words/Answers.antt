@@ -1,5 +1,4 @@
 -- Goals of `record::var_words` that the search leaves.
-use borrow.Author.Rules.{rules}
 use Rattle.record.proofs.var_words.Goals as goal
 
 pub returns : goal.returns

@@ -1,5 +1,4 @@
 -- Goals of `record::words_of` that the search leaves.
-use borrow.Author.Rules.{rules}
 use Rattle.record.proofs.words_of.Goals as goal
 
 pub returns-in-Comment : goal.returns-in-Comment

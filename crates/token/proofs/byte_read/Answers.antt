@@ -1,7 +1,6 @@
 -- Goals of `token::byte_read` that the search leaves.
 use Rattle.token.specs.Read.{byte_read}
 use Rattle.token.specs.Flat.{word_read}
-use borrow.Author.Rules.{rules}
 use Rattle.token.proofs.byte_read.Goals as goal
 
 pub returns : goal.returns

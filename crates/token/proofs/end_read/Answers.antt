@@ -1,7 +1,6 @@
 -- Goals of `token::end_read` that the search leaves.
 use Rattle.token.specs.Read.{end_read}
 use Rattle.token.specs.Flat.{word_end_read}
-use borrow.Author.Rules.{rules}
 use Rattle.token.proofs.end_read.Goals as goal
 
 pub returns : goal.returns

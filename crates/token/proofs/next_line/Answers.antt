@@ -1,6 +1,5 @@
 -- Goals of `token::next_line` that the search leaves.
 use native.Mathlib.Nat.{add-zero}
-use borrow.Author.Rules.{rules}
 use Rattle.token.proofs.next_line.Goals as goal
 
 pub returns-then-c : goal.returns-then-c

@@ -1,10 +1,8 @@
 -- Goals of `token::pairs_end` that the search leaves.
-use Prim.Native.Nat.{◌-◌}
 use mathlib.Core.Path.{refl}
 use native.Mathlib.Omega.{arith}
-use lib.ListN.{length}
 use borrow.Author.Rules.{rules}
-use Rattle.token.proofs.Words.{ValuesTo, values-more, values-two, pair-value}
+use Rattle.token.proofs.Words.{values-more, values-two, pair-value}
 use Rattle.token.proofs.pairs_end.Goals as goal
 
 pub returns-then-stop-at : goal.returns-then-stop-at

@@ -1,12 +1,9 @@
 -- Goals of `token::read_over` that the search leaves.
-use Prim.Native.Nat.{◌-◌, ◌≤◌}
-use mathlib.Core.Path.{◌≡◌, refl, sym, ap, ◌∙◌}
+use mathlib.Core.Path.{refl, sym, ap, ◌∙◌}
 use native.Mathlib.Omega.{arith}
-use borrow.Author.Rules.{rules}
-use Rattle.token.specs.Read.{Valid}
 use Rattle.token.specs.declared.Cursor.Cursor.{place}
 use Rattle.token.proofs.Reading.{valid-step, place-step}
-use Rattle.token.proofs.Texts.{read_to, over-step, over-end}
+use Rattle.token.proofs.Texts.{over-step, over-end}
 use Rattle.token.proofs.read_over.Goals as goal
 
 pub loop-cur-init : goal.loop-cur-init

@@ -1,12 +1,8 @@
 -- What the loops of `token::read_over` keep.
 use Prim.Native.Nat.{◌-◌, ◌≤◌}
-use mathlib.Core.Path.{◌≡◌, refl, sym, ap, ◌∙◌}
-use native.Mathlib.Omega.{arith}
-use borrow.Author.Rules.{rules}
+use mathlib.Core.Path.{◌≡◌}
 use Rattle.token.specs.Read.{Valid}
-use Rattle.token.specs.declared.Cursor.Cursor.{place}
-use Rattle.token.proofs.Reading.{valid-step, place-step}
-use Rattle.token.proofs.Texts.{read_to, over-step, over-end}
+use Rattle.token.proofs.Texts.{read_to}
 use Rattle.token.proofs.read_over.Given as goal
 
 abbrev pub invariant-loop-cur : goal.invariant-loop-cur

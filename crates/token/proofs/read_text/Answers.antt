@@ -8,7 +8,6 @@ use Rattle.text.specs.declared.Found.{Found}
 use Rattle.text.proofs.Lists.{take_rest}
 use Rattle.token.specs.Read.{Valid, rest}
 use Rattle.token.proofs.Texts.{over-valid, text-found, text-lost}
-use borrow.Author.Rules.{rules}
 use Rattle.token.proofs.read_text.Goals as goal
 use Rattle.token.proofs.read_text.Goals.{After-find_end-found, In-At}
 

@@ -1,6 +1,5 @@
 -- Goals of `token::read_token` that the search leaves.
 use mathlib.Core.Path.{refl}
-use borrow.Author.Rules.{rules}
 use Rattle.token.specs.Read.{Valid, most, token}
 use Rattle.token.specs.Flat.{first_passed}
 use Rattle.token.proofs.Tokens.{skipped-valid}

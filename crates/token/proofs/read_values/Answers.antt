@@ -2,7 +2,6 @@
 use mathlib.Core.Path.{◌≡◌, refl, sym, ap, ◌∙◌}
 use Prim.Native.Nat.{ℕ, ◌+◌}
 use lib.ListN.{length}
-use borrow.Author.Rules.{rules}
 use Rattle.token.specs.Read.{Valid, rest, values, token}
 use Rattle.token.specs.Flat.{first_passed}
 use Rattle.token.proofs.Tokens.{skipped-valid}

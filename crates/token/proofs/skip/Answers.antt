@@ -1,10 +1,6 @@
 -- Goals of `token::skip` that the search leaves.
-use Prim.Native.Nat.{◌-◌}
-use mathlib.Core.Path.{◌≡◌, refl, sym, ap, ◌∙◌}
+use mathlib.Core.Path.{refl, sym, ap, ◌∙◌}
 use native.Mathlib.Omega.{arith}
-use lib.ListN.{length}
-use borrow.Author.Rules.{rules}
-use Rattle.token.specs.Read.{Valid, skipped}
 use Rattle.token.specs.declared.Cursor.Cursor.{place}
 use Rattle.token.proofs.Reading.{valid-step, place-step, skip_step, skip_stop, skip-end}
 use Rattle.token.proofs.skip.Goals as goal

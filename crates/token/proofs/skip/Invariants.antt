@@ -1,12 +1,8 @@
 -- What the loops of `token::skip` keep.
 use Prim.Native.Nat.{◌-◌}
-use mathlib.Core.Path.{◌≡◌, refl, sym, ap, ◌∙◌}
-use native.Mathlib.Omega.{arith}
+use mathlib.Core.Path.{◌≡◌}
 use lib.ListN.{length}
-use borrow.Author.Rules.{rules}
 use Rattle.token.specs.Read.{Valid, skipped}
-use Rattle.token.specs.declared.Cursor.Cursor.{place}
-use Rattle.token.proofs.Reading.{valid-step, place-step, skip_step, skip_stop, skip-end}
 use Rattle.token.proofs.skip.Given as goal
 
 abbrev pub invariant-loop-cur : goal.invariant-loop-cur

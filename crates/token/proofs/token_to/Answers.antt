@@ -1,7 +1,6 @@
 -- Goals of `token::token_to` that the search leaves.
 use mathlib.Core.Path.{sym, ◌∙◌}
 use Rattle.token.proofs.Words.{here-eof, here-text, here-long}
-use borrow.Author.Rules.{rules}
 use Rattle.token.proofs.token_to.Goals as goal
 
 pub returns-then-input-end : goal.returns-then-input-end

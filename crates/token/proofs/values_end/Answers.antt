@@ -1,8 +1,6 @@
 -- Goals of `token::values_end` that the search leaves.
-use Prim.Native.Nat.{◌-◌}
 use mathlib.Core.Path.{refl, sym, ◌∙◌}
 use native.Mathlib.Omega.{arith}
-use lib.ListN.{length}
 use borrow.Author.Rules.{rules}
 use Rattle.token.proofs.Words.{values-stop, values-none, ValuesTo, values-more, values-on}
 use Rattle.token.proofs.values_end.Goals as goal

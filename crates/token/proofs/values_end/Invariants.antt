@@ -1,10 +1,7 @@
 -- What the loops of `token::values_end` keep.
 use Prim.Native.Nat.{◌-◌}
-use mathlib.Core.Path.{refl, sym, ◌∙◌}
-use native.Mathlib.Omega.{arith}
 use lib.ListN.{length}
-use borrow.Author.Rules.{rules}
-use Rattle.token.proofs.Words.{values-stop, values-none, ValuesTo, values-more, values-on}
+use Rattle.token.proofs.Words.{ValuesTo}
 use Rattle.token.proofs.values_end.Given as goal
 
 abbrev pub invariant-loop-i : goal.invariant-loop-i

@@ -1,10 +1,7 @@
 -- Goals of `token::word_end` that the search leaves.
-use Prim.Native.Nat.{◌+◌, ◌-◌, ◌≤◌}
-use mathlib.Core.Path.{◌≡◌, refl, sym, ap, ◌∙◌}
+use mathlib.Core.Path.{refl, sym, ap, ◌∙◌}
 use native.Mathlib.Omega.{arith}
 use lib.ListN.{length, drop, length-take, length-drop}
-use borrow.Author.Rules.{rules}
-use Rattle.token.specs.Read.{word}
 use Rattle.token.proofs.Reading.{word-le}
 use Rattle.token.proofs.Words.{word-step, word-stop}
 use Rattle.token.proofs.word_end.Goals as goal

@@ -1,12 +1,8 @@
 -- What the loops of `token::word_end` keep.
 use Prim.Native.Nat.{◌+◌, ◌-◌, ◌≤◌}
-use mathlib.Core.Path.{◌≡◌, refl, sym, ap, ◌∙◌}
-use native.Mathlib.Omega.{arith}
-use lib.ListN.{length, drop, length-take, length-drop}
-use borrow.Author.Rules.{rules}
+use mathlib.Core.Path.{◌≡◌}
+use lib.ListN.{length, drop}
 use Rattle.token.specs.Read.{word}
-use Rattle.token.proofs.Reading.{word-le}
-use Rattle.token.proofs.Words.{word-step, word-stop}
 use Rattle.token.proofs.word_end.Given as goal
 
 abbrev pub invariant-loop-i : goal.invariant-loop-i

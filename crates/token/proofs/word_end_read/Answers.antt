@@ -1,6 +1,5 @@
 -- Goals of `token::word_end_read` that the search leaves.
 use Rattle.token.specs.Flat.{word_end_read}
-use borrow.Author.Rules.{rules}
 use Rattle.token.proofs.word_end_read.Goals as goal
 
 pub returns : goal.returns

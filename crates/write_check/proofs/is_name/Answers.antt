@@ -1,7 +1,5 @@
 -- Goals of `write_check::is_name` that the search leaves.
 use mathlib.Core.Path.{sym, ◌∙◌}
-use borrow.Author.Rules.{rules}
-use borrow.Author.Tests.{not-true, not-false}
 use Rattle.write_check.proofs.Checks.{name-none, name-some}
 use Rattle.write_check.proofs.is_name.Goals as goal
 

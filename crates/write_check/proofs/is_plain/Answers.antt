@@ -1,12 +1,6 @@
 -- Goals of `write_check::is_plain` that the search leaves.
-use Prim.Native.Nat.{◌+◌, ◌-◌, ◌≤◌}
-use mathlib.Core.Path.{◌≡◌}
 use mathlib.Core.Bool.{false≢true}
 use native.Mathlib.Omega.{arith}
-use borrow.Author.Rules.{rules}
-use borrow.Author.Tests.{not-false}
-use lib.ListN.{length}
-use Rattle.text.specs.Plain.{Plain}
 use Rattle.text.proofs.Printable.{plain-join}
 use Rattle.write_check.proofs.Checks.{plain-clean}
 use Rattle.write_check.proofs.is_plain.Goals as goal

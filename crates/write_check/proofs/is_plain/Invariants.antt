@@ -1,14 +1,8 @@
 -- What the loops of `write_check::is_plain` keep.
 use Prim.Native.Nat.{◌+◌, ◌-◌, ◌≤◌}
 use mathlib.Core.Path.{◌≡◌}
-use mathlib.Core.Bool.{false≢true}
-use native.Mathlib.Omega.{arith}
-use borrow.Author.Rules.{rules}
-use borrow.Author.Tests.{not-false}
 use lib.ListN.{length}
 use Rattle.text.specs.Plain.{Plain}
-use Rattle.text.proofs.Printable.{plain-join}
-use Rattle.write_check.proofs.Checks.{plain-clean}
 use Rattle.write_check.proofs.is_plain.Given as goal
 
 abbrev pub invariant-loop-i : goal.invariant-loop-i

@@ -1,10 +1,7 @@
 -- Goals of `write_check::is_plain_few` that the search leaves.
-use Prim.Native.Nat.{◌-◌}
 use mathlib.Core.Bool.{false≢true}
 use borrow.Author.Rules.{rules}
-use borrow.Author.Tests.{not-false}
-use lib.ListN.{length}
-use Rattle.write_check.proofs.Checks.{Passed, passed-more, passed-all}
+use Rattle.write_check.proofs.Checks.{passed-more, passed-all}
 use Rattle.write_check.proofs.is_plain_few.Goals as goal
 
 pub loop-i-init : goal.loop-i-init

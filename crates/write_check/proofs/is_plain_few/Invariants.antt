@@ -1,10 +1,7 @@
 -- What the loops of `write_check::is_plain_few` keep.
 use Prim.Native.Nat.{◌-◌}
-use mathlib.Core.Bool.{false≢true}
-use borrow.Author.Rules.{rules}
-use borrow.Author.Tests.{not-false}
 use lib.ListN.{length}
-use Rattle.write_check.proofs.Checks.{Passed, passed-more, passed-all}
+use Rattle.write_check.proofs.Checks.{Passed}
 use Rattle.write_check.proofs.is_plain_few.Given as goal
 
 abbrev pub invariant-loop-i : goal.invariant-loop-i

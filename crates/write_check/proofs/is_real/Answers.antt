@@ -1,6 +1,5 @@
 -- Goals of `write_check::is_real` that the search leaves.
 use mathlib.Core.Path.{sym, ◌∙◌}
-use borrow.Author.Rules.{rules}
 use Rattle.write_check.proofs.Checks.{real-long, real-short}
 use Rattle.write_check.proofs.is_real.Goals as goal
 

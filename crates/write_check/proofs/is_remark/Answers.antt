@@ -1,7 +1,5 @@
 -- Goals of `write_check::is_remark` that the search leaves.
 use mathlib.Core.Path.{◌≡◌, sym, ap, ◌∙◌}
-use borrow.Author.Rules.{rules}
-use borrow.Author.Tests.{not-true, not-false}
 use Rattle.text.specs.declared.Text.{Text}
 use Rattle.write_check.proofs.Checks.{remark-bytes, remark-start, remark-length, remark-end, remark-yes}
 use Rattle.write_check.proofs.is_remark.Goals as goal

@@ -1,7 +1,6 @@
 -- Goals of `write_check::is_vector` that the search leaves.
 use mathlib.Core.Path.{sym, ◌∙◌}
 use native.Mathlib.Omega.{arith}
-use borrow.Author.Rules.{rules}
 use Rattle.write_check.proofs.Checks.{vector-none, vector-some}
 use Rattle.write_check.proofs.is_vector.Goals as goal
 

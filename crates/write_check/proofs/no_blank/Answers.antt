@@ -1,9 +1,6 @@
 -- Goals of `write_check::no_blank` that the search leaves.
-use Prim.Native.Nat.{◌-◌, ◌≤◌}
-use mathlib.Core.Path.{◌≡◌, refl, sym, ◌∙◌}
+use mathlib.Core.Path.{refl, sym, ◌∙◌}
 use borrow.Author.Rules.{rules}
-use lib.ListN.{length, drop}
-use Rattle.text.specs.Bytes.{no_blank}
 use Rattle.write_check.proofs.Checks.{blank-more, blank-stop, blank-done}
 use Rattle.write_check.proofs.no_blank.Goals as goal
 

@@ -1,10 +1,8 @@
 -- What the loops of `write_check::no_blank` keep.
 use Prim.Native.Nat.{◌-◌, ◌≤◌}
-use mathlib.Core.Path.{◌≡◌, refl, sym, ◌∙◌}
-use borrow.Author.Rules.{rules}
+use mathlib.Core.Path.{◌≡◌}
 use lib.ListN.{length, drop}
 use Rattle.text.specs.Bytes.{no_blank}
-use Rattle.write_check.proofs.Checks.{blank-more, blank-stop, blank-done}
 use Rattle.write_check.proofs.no_blank.Given as goal
 
 abbrev pub invariant-loop-i : goal.invariant-loop-i

@@ -1,12 +1,10 @@
 -- Goals of `record::RecordWords::command` that the search leaves.
 use mathlib.Core.Path.{sym, ap, ◌∙◌}
-use borrow.Author.Tests.{eq-eqb, ne_eqb, not-true, not-false}
-use lib.Dec.{eqb}
+use borrow.Author.Tests.{eq-eqb, ne_eqb}
 use Rattle.rows.specs.Rows.{all_zero}
 use Rattle.record.specs.Record.{command_of}
 use Rattle.record.specs.declared.Recorded.{Recorded}
 use Rattle.record.proofs.Uses.{used, var-row}
-use borrow.Author.Rules.{rules}
 use Rattle.record.proofs.RecordWords.command.Goals as goal
 use Rattle.record.proofs.RecordWords.command.Goals.{then-self-ne0-via-then-self-ne0, then-self-ne0-via-else-self-ne0+then-self-ne0-2, then-self-ne0-via-else-self-ne0+else-self-ne0-2+then-self-ne0-3}
 
@@ -18,11 +16,11 @@ unfolding command_of all_zero
 returns-then-self-ne0 c =
     let a = c.args.self in
     rw (ne_eqb _ 7 c.if-self-eq-VAR.false) (elim c.then-self-ne0.branch [
-    | then-self-ne0-via-then-self-ne0 w ↦ rw (ne_eqb _ 0 w.if-self-ne0.true)
-    | then-self-ne0-via-else-self-ne0+then-self-ne0-2 w ↦
-      rw (eq-eqb _ 0 w.if-self-ne0.false, ne_eqb a.first 0 w.if-self-ne0-2.true)
-    | then-self-ne0-via-else-self-ne0+else-self-ne0-2+then-self-ne0-3 w ↦
-      rw (eq-eqb _ 0 w.if-self-ne0.false, eq-eqb a.first 0 w.if-self-ne0-2.false, ne_eqb a.second 0 w.if-self-ne0-3.true)
+      | then-self-ne0-via-then-self-ne0 w ↦ rw (ne_eqb _ 0 w.if-self-ne0.true)
+      | then-self-ne0-via-else-self-ne0+then-self-ne0-2 w ↦
+          rw (eq-eqb _ 0 w.if-self-ne0.false, ne_eqb a.first 0 w.if-self-ne0-2.true)
+      | then-self-ne0-via-else-self-ne0+else-self-ne0-2+then-self-ne0-3 w ↦
+          rw (eq-eqb _ 0 w.if-self-ne0.false, eq-eqb a.first 0 w.if-self-ne0-2.false, ne_eqb a.second 0 w.if-self-ne0-3.true)
     ])
 
 pub returns-then-not-is_used : goal.returns-then-not-is_used

@@ -2,7 +2,6 @@
 use borrow.Author.Tests.{ne_eqb}
 use Rattle.record.specs.Record.{command_in}
 use Rattle.record.proofs.Uses.{quantity-fits}
-use borrow.Author.Rules.{rules}
 use Rattle.record.proofs.RecordWords.made.Goals as goal
 
 pub overflow_cast-result : goal.overflow_cast-result

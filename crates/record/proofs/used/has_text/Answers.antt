@@ -10,10 +10,10 @@ pub returns-then-kind-eq-SCOPE : goal.returns-then-kind-eq-SCOPE
 unfolding has_text
 returns-then-kind-eq-SCOPE c =
     elim c.if-kind-le-VERSION.branch [
-    | then-kind-le-VERSION w ↦ rw (w.t-3-is, le-leb _ 3 w.if-kind-le-VERSION.true)
-    | else-kind-le-VERSION w ↦
-      let is : c.args.kind ≡ 5 = omega arith in
-      rw (w.t-3-is, lt-leb _ 3 w.if-kind-le-VERSION.false, eq-eqb _ 5 is)
+      | then-kind-le-VERSION w ↦ rw (w.t-3-is, le-leb _ 3 w.if-kind-le-VERSION.true)
+      | else-kind-le-VERSION w ↦
+          let is : c.args.kind ≡ 5 = omega arith in
+          rw (w.t-3-is, lt-leb _ 3 w.if-kind-le-VERSION.false, eq-eqb _ 5 is)
     ]
 
 pub returns-then-kind-ge-VECTOR : goal.returns-then-kind-ge-VECTOR

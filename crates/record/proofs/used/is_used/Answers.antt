@@ -1,12 +1,11 @@
 -- Goals of `record::used::is_used` that the search leaves.
 use Prim.Native.Nat.{ℕ}
-use mathlib.Core.Logic.{⊥, ◌⊎◌, ⊎_elim, absurd}
+use mathlib.Core.Logic.{◌⊎◌, ⊎_elim}
 use mathlib.Core.Path.{◌≡◌, sym, ◌∙◌}
 use mathlib.Core.Bool.{true, false, ◌&&◌, ◌||◌}
-use borrow.Author.Tests.{le-leb, lt-leb, eq-eqb, ne_eqb, ltb-true, ltb-false, not-true, not-false}
+use borrow.Author.Tests.{le-leb, lt-leb, eq-eqb, ne_eqb}
 use lib.Dec.{eqb}
 use Rattle.record.specs.Used.{has_code, is_used}
-use borrow.Author.Rules.{rules}
 use Rattle.record.proofs.used.is_used.Goals as goal
 use Rattle.record.proofs.used.is_used.Goals.{then-kind-lt-COMMENT-via-then-kind-lt-COMMENT, then-kind-lt-COMMENT-via-else-kind-lt-COMMENT+then-kind-gt-END}
 use Rattle.record.proofs.used.is_used.Goals.{Joined-else-w-ne0, else-w-ne0-via-then-w-ne0+else-not-has_code, else-w-ne0-via-else-w-ne0, then-w-eq0, else-w-eq0}
@@ -15,22 +14,22 @@ use Rattle.record.proofs.used.is_used.Goals.{Joined-else-w-ne0, else-w-ne0-via-t
 code : (c : Joined-else-w-ne0) → let w = c.args.w in (eqb w.code 0 || has_code w.kind) ≡ true
 code c =
     elim c.else-w-ne0.branch [
-    | else-w-ne0-via-then-w-ne0+else-not-has_code w ↦
-      rw (ne_eqb _ 0 w.if-w-ne0.true) (sym w.has_code.ensures ∙ w.if-not-has_code.false)
-    | else-w-ne0-via-else-w-ne0 w ↦ rw (eq-eqb _ 0 w.if-w-ne0.false)
+      | else-w-ne0-via-then-w-ne0+else-not-has_code w ↦
+          rw (ne_eqb _ 0 w.if-w-ne0.true) (sym w.has_code.ensures ∙ w.if-not-has_code.false)
+      | else-w-ne0-via-else-w-ne0 w ↦ rw (eq-eqb _ 0 w.if-w-ne0.false)
     ]
 
 -- start and length are not both 0
-some : (s l : ℕ) → ((s ≡ 0 → ⊥) ⊎ (s ≡ 0 × (l ≡ 0 → ⊥))) → (eqb s 0 && eqb l 0) ≡ false
-some s l e = ⊎_elim (λ h. rw (ne_eqb s 0 h)) (λ h. rw (eq-eqb s 0 h.0, ne_eqb l 0 h.1)) e
+some : (s l : ℕ) → ((s ≡ 0 × (l ≡ 0 → ⊥)) ⊎ (s ≡ 0 → ⊥)) → (eqb s 0 && eqb l 0) ≡ false
+some s l e = ⊎_elim (λ h. rw (eq-eqb s 0 h.0, ne_eqb l 0 h.1)) (λ h. rw (ne_eqb s 0 h)) e
 
 pub returns-then-kind-lt-COMMENT : goal.returns-then-kind-lt-COMMENT
 unfolding is_used
 returns-then-kind-lt-COMMENT c =
     elim c.then-kind-lt-COMMENT.branch [
-    | then-kind-lt-COMMENT-via-then-kind-lt-COMMENT w ↦ rw (lt-leb 1 _ w.if-kind-lt-COMMENT.true)
-    | then-kind-lt-COMMENT-via-else-kind-lt-COMMENT+then-kind-gt-END w ↦
-      rw (le-leb 1 _ w.if-kind-lt-COMMENT.false, lt-leb _ 15 w.if-kind-gt-END.true)
+      | then-kind-lt-COMMENT-via-then-kind-lt-COMMENT w ↦ rw (lt-leb 1 _ w.if-kind-lt-COMMENT.true)
+      | then-kind-lt-COMMENT-via-else-kind-lt-COMMENT+then-kind-gt-END w ↦
+          rw (le-leb 1 _ w.if-kind-lt-COMMENT.false, lt-leb _ 15 w.if-kind-gt-END.true)
     ]
 
 pub returns-then-number_most-w : goal.returns-then-number_most-w
@@ -79,8 +78,8 @@ returns-then-w-eq0-2 c =
       eq-eqb _ 0 c.if-w-eq0-2.true.1,
     )
     (elim c.if-w-eq0.branch [
-    | then-w-eq0 w ↦ w.t-11-is ∙ eq-eqb _ 0 c.if-w-eq0-2.true.1
-    | else-w-eq0 w ↦ absurd (w.if-w-eq0.false c.if-w-eq0-2.true.0)
+      | then-w-eq0 w ↦ w.t-11-is ∙ eq-eqb _ 0 c.if-w-eq0-2.true.1
+      | else-w-eq0 w ↦ absurd (w.if-w-eq0.false c.if-w-eq0-2.true.0)
     ])
 
 pub returns-else-w-eq0-2 : goal.returns-else-w-eq0-2
