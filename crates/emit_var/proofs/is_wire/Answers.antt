@@ -4,11 +4,10 @@ use mathlib.Core.Path.{◌≡◌, refl}
 use mathlib.Core.List.{List, [], ◌∷◌}
 use native.Mathlib.Omega.{arith}
 use borrow.Author.Rules.{rules}
-use types.Run.{miss}
 use Rattle.emit_var.proofs.is_wire.Goals as goal
 
 pub returns-in-Wire : goal.returns-in-Wire
 returns-in-Wire c = (λ e. refl, λ e. let q = c.in-Wire.is in absurd (let z : ◌≡◌ {A = ℕ} 0 1 = cc in omega arith))
 
 pub returns-in_default : goal.returns-in_default
-returns-in_default c = ?
+returns-in_default c = (λ e. absurd (c.in_default.not-Wire e), λ e. refl)

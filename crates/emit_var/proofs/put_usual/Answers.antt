@@ -3,7 +3,6 @@ use Prim.Native.Nat.{ℕ, ◌+◌, ◌≤◌}
 use mathlib.Core.Path.{◌≡◌, refl, ◌∙◌}
 use mathlib.Core.Bool.{Bool, true, false, cond}
 use mathlib.Core.List.{List, [], ◌∷◌}
-use mathlib.Core.Logic.{⊎_elim}
 use native.Mathlib.Omega.{arith}
 use borrow.Author.Rules.{rules}
 use lib.ListN.{length}
@@ -12,7 +11,7 @@ use Rattle.emit.specs.Put.{stored}
 use Rattle.emit_var.specs.Define.{usual, Puts}
 use Rattle.emit_var.proofs.Putting.{both, again}
 use Rattle.emit_var.proofs.put_usual.Goals as goal
-use Rattle.emit_var.proofs.put_usual.Goals.{After-put_four, Joined-wire}
+use Rattle.emit_var.proofs.put_usual.Goals.{After-put_four, Joined-wire, then-wire, else-wire}
 
 -- the four bytes, and where the space goes
 abbrev four : Bool → List ℕ
@@ -23,7 +22,9 @@ four-first true = omega arith
 four-first false = omega arith
 
 ends : (c : Joined-wire) → let x = c.args in c.if-wire.end + 1 ≡ x.at + length (usual x.wire)
-ends c = ?
+ends c =
+    elim c.if-wire.branch
+    [ then-wire w ↦ rw (w.if-wire.true, w.end-is) (omega arith) | else-wire w ↦ rw (w.if-wire.false, w.end-is) (omega arith) ]
 
 -- the space goes after `wire`, and on the one after `reg`
 put : (wire : Bool) (o : List ℕ) (at n : ℕ) {r : ℕ} {o' o'' : List ℕ} → at + length (usual wire) ≤ length o

@@ -4,7 +4,7 @@ use mathlib.Core.Path.{◌≡◌, sym, ap, ◌∙◌}
 use mathlib.Core.List.{List, ◌++◌, append_assoc}
 use native.Mathlib.Omega.{arith}
 use borrow.Author.Rules.{rules}
-use lib.ListN.{length}
+use lib.ListN.{length-append}
 use Rattle.text.specs.Bytes.{bytes}
 use Rattle.number.specs.Decimal.{decimal_of}
 use Rattle.idcode.specs.Id.{id_text}
@@ -36,7 +36,7 @@ module _ (t : VarType) (width : ℕ) (id : IdCode) (name : List ℕ) (x : Refere
 pub returns : goal.returns
 returns c =
     let s = c.args in
-    let whole = due s.out.now 0 (var_text s.t s.width s.id s.name.now s.x) (parts s.t s.width s.id s.name.now s.x) c.requires in
+    let whole = due s.out.now 0 (var_text s.t s.width s.id s.name.now s.x) (parts s.t s.width s.id s.name.now s.x) (omega arith) in
     let a = more (spoken Word.Var) _ whole c.put_four-n.ensures in
     let b = more (bytes " ") _ a c.put_byte-n.ensures in
     let d = more (kind s.t s.width s.id s.name.now s.x) _ b c.put_type-n.ensures in
@@ -50,34 +50,34 @@ returns c =
     (more end_mark _ k c.put_four-n-2.ensures).done c.put_byte.ensures
 
 pub put_byte-n-requires : goal.put_byte-n-requires
-put_byte-n-requires c = omega (arith, total-is (var_words c.args.t c.args.width c.args.id c.args.name.now c.args.x) 0)
+put_byte-n-requires c = omega (arith, total-is (var_words c.args.t c.args.width c.args.id c.args.name.now c.args.x) 0, length-append (bytes (var_name c.args.t)) (bytes " "))
 
 pub put_type-n-requires : goal.put_type-n-requires
-put_type-n-requires c = omega (arith, total-is (var_words c.args.t c.args.width c.args.id c.args.name.now c.args.x) 0)
+put_type-n-requires c = omega (arith, total-is (var_words c.args.t c.args.width c.args.id c.args.name.now c.args.x) 0, length-append (bytes (var_name c.args.t)) (bytes " "))
 
 pub put_number-n-requires : goal.put_number-n-requires
-put_number-n-requires c = omega (arith, total-is (var_words c.args.t c.args.width c.args.id c.args.name.now c.args.x) 0)
+put_number-n-requires c = omega (arith, total-is (var_words c.args.t c.args.width c.args.id c.args.name.now c.args.x) 0, length-append (bytes (var_name c.args.t)) (bytes " "))
 
 pub put_byte-n-requires-2 : goal.put_byte-n-requires-2
-put_byte-n-requires-2 c = omega (arith, total-is (var_words c.args.t c.args.width c.args.id c.args.name.now c.args.x) 0)
+put_byte-n-requires-2 c = omega (arith, total-is (var_words c.args.t c.args.width c.args.id c.args.name.now c.args.x) 0, length-append (bytes (var_name c.args.t)) (bytes " "))
 
 pub put_id-n-requires : goal.put_id-n-requires
-put_id-n-requires c = omega (arith, total-is (var_words c.args.t c.args.width c.args.id c.args.name.now c.args.x) 0)
+put_id-n-requires c = omega (arith, total-is (var_words c.args.t c.args.width c.args.id c.args.name.now c.args.x) 0, length-append (bytes (var_name c.args.t)) (bytes " "))
 
 pub put_byte-n-requires-3 : goal.put_byte-n-requires-3
-put_byte-n-requires-3 c = omega (arith, total-is (var_words c.args.t c.args.width c.args.id c.args.name.now c.args.x) 0)
+put_byte-n-requires-3 c = omega (arith, total-is (var_words c.args.t c.args.width c.args.id c.args.name.now c.args.x) 0, length-append (bytes (var_name c.args.t)) (bytes " "))
 
 pub put-n-requires : goal.put-n-requires
-put-n-requires c = omega (arith, total-is (var_words c.args.t c.args.width c.args.id c.args.name.now c.args.x) 0)
+put-n-requires c = omega (arith, total-is (var_words c.args.t c.args.width c.args.id c.args.name.now c.args.x) 0, length-append (bytes (var_name c.args.t)) (bytes " "))
 
 pub put_index-n-requires : goal.put_index-n-requires
-put_index-n-requires c = omega (arith, total-is (var_words c.args.t c.args.width c.args.id c.args.name.now c.args.x) 0)
+put_index-n-requires c = omega (arith, total-is (var_words c.args.t c.args.width c.args.id c.args.name.now c.args.x) 0, length-append (bytes (var_name c.args.t)) (bytes " "))
 
 pub put_byte-n-requires-4 : goal.put_byte-n-requires-4
-put_byte-n-requires-4 c = omega (arith, total-is (var_words c.args.t c.args.width c.args.id c.args.name.now c.args.x) 0)
+put_byte-n-requires-4 c = omega (arith, total-is (var_words c.args.t c.args.width c.args.id c.args.name.now c.args.x) 0, length-append (bytes (var_name c.args.t)) (bytes " "))
 
 pub put_four-n-requires-2 : goal.put_four-n-requires-2
-put_four-n-requires-2 c = omega (arith, total-is (var_words c.args.t c.args.width c.args.id c.args.name.now c.args.x) 0)
+put_four-n-requires-2 c = omega (arith, total-is (var_words c.args.t c.args.width c.args.id c.args.name.now c.args.x) 0, length-append (bytes (var_name c.args.t)) (bytes " "))
 
 pub put_byte-requires : goal.put_byte-requires
-put_byte-requires c = omega (arith, total-is (var_words c.args.t c.args.width c.args.id c.args.name.now c.args.x) 0)
+put_byte-requires c = omega (arith, total-is (var_words c.args.t c.args.width c.args.id c.args.name.now c.args.x) 0, length-append (bytes (var_name c.args.t)) (bytes " "))

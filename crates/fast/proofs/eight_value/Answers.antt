@@ -2,12 +2,9 @@
 use Rattle.std.proofs.Common.{ℕ, ◌+◌, arith, rules}
 use Rattle.fast.proofs.Short.{in_pairs, Makes, eight-makes}
 use Rattle.fast.proofs.eight_value.Goals as goal
-use Rattle.fast.proofs.eight_value.Goals.{After-wide-8, Start}
+use Rattle.fast.proofs.eight_value.Goals.{After-wide-8}
 
 -- what the eight bytes make in all
-abbrev start : After-wide-8 → Start
-start c = c.before.before.before.before.before.before.before.before.before.before.before.before.before.before.before.before.before
-
 abbrev total : After-wide-8 → ℕ
 total c =
     in_pairs c.wide.result c.wide-2.result
@@ -15,9 +12,9 @@ total c =
     c.wide-5.result c.wide-6.result
     c.wide-7.result c.wide-8.result
 
-told : (c : After-wide-8) → Makes (start c).args.input.now (start c).args.at (total c)
+told : (c : After-wide-8) → Makes c.args.input.now c.args.at (total c)
 told c =
-    eight-makes _ _ (start c).requires.0 (start c).requires.1 _ _ _ _ _ _ _ _
+    eight-makes _ _ c.requires.0 c.requires.1 _ _ _ _ _ _ _ _
     c.wide.ensures c.wide-2.ensures
     c.wide-3.ensures c.wide-4.ensures
     c.wide-5.ensures c.wide-6.ensures
@@ -25,37 +22,37 @@ told c =
 
 pub overflow_mul-a : goal.overflow_mul-a
 overflow_mul-a c =
-    omega (arith, c.wide.ensures, c.shared_slice_known-1.given c.args.at)
+    omega (arith, c.wide.ensures, c.type_inv.input c.args.at)
 
 pub overflow_add-a : goal.overflow_add-a
 overflow_add-a c =
     let i = c.args.at in
-    let byte = c.shared_slice_known-1.given in
+    let byte = c.type_inv.input in
     omega (arith, c.wide.ensures, c.wide-2.ensures, byte i, byte (i + 1))
 
 pub overflow_mul-b : goal.overflow_mul-b
 overflow_mul-b c =
-    omega (arith, c.wide-3.ensures, c.shared_slice_known-1.given (c.args.at + 2))
+    omega (arith, c.wide-3.ensures, c.type_inv.input (c.args.at + 2))
 
 pub overflow_add-b : goal.overflow_add-b
 overflow_add-b c =
     let i = c.args.at in
-    let byte = c.shared_slice_known-1.given in
+    let byte = c.type_inv.input in
     omega (arith, c.wide-3.ensures, c.wide-4.ensures, byte (i + 2), byte (i + 3))
 
 pub overflow_mul-c : goal.overflow_mul-c
 overflow_mul-c c =
-    omega (arith, c.wide-5.ensures, c.shared_slice_known-1.given (c.args.at + 4))
+    omega (arith, c.wide-5.ensures, c.type_inv.input (c.args.at + 4))
 
 pub overflow_add-c : goal.overflow_add-c
 overflow_add-c c =
     let i = c.args.at in
-    let byte = c.shared_slice_known-1.given in
+    let byte = c.type_inv.input in
     omega (arith, c.wide-5.ensures, c.wide-6.ensures, byte (i + 4), byte (i + 5))
 
 pub overflow_mul-d : goal.overflow_mul-d
 overflow_mul-d c =
-    omega (arith, c.wide-7.ensures, c.shared_slice_known-1.given (c.args.at + 6))
+    omega (arith, c.wide-7.ensures, c.type_inv.input (c.args.at + 6))
 
 pub overflow_add-d : goal.overflow_add-d
 overflow_add-d c = omega (arith, told (goal.at.overflow_add-d c).After-wide-8)

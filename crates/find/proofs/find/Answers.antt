@@ -2,7 +2,6 @@
 use mathlib.Core.Path.{sym, ◌∙◌}
 use Rattle.text.proofs.Limit.{too_long_lem, not-long}
 use Rattle.find.specs.Find.{found}
-use borrow.Author.Rules.{rules}
 use Rattle.find.proofs.find.Goals as goal
 
 pub returns-then-input-gt-LIMIT : goal.returns-then-input-gt-LIMIT

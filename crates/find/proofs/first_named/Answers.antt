@@ -1,11 +1,7 @@
 -- Goals of `find::first_named` that the search leaves.
-use Prim.Native.Nat.{◌-◌, ◌≤◌}
-use mathlib.Core.Path.{◌≡◌, refl, sym, ◌∙◌}
+use mathlib.Core.Path.{refl, sym, ◌∙◌}
 use native.Mathlib.Omega.{arith}
-use Rattle.find.specs.Find.{first_named}
-use Rattle.rows.specs.Rows.{rows_of}
-use Rattle.find.proofs.Finding.{from, from_start, from-hit, from_more, from_end, beyond}
-use borrow.Author.Rules.{rules}
+use Rattle.find.proofs.Finding.{from_start, from-hit, from_more, from_end, beyond}
 use Rattle.find.proofs.first_named.Goals as goal
 
 pub loop-i-init : goal.loop-i-init

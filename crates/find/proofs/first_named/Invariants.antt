@@ -1,11 +1,9 @@
 -- What the loops of `find::first_named` keep.
 use Prim.Native.Nat.{◌-◌, ◌≤◌}
-use mathlib.Core.Path.{◌≡◌, refl, sym, ◌∙◌}
-use native.Mathlib.Omega.{arith}
+use mathlib.Core.Path.{◌≡◌}
 use Rattle.find.specs.Find.{first_named}
 use Rattle.rows.specs.Rows.{rows_of}
-use Rattle.find.proofs.Finding.{from, from_start, from-hit, from_more, from_end, beyond}
-use borrow.Author.Rules.{rules}
+use Rattle.find.proofs.Finding.{from}
 use Rattle.find.proofs.first_named.Given as goal
 
 abbrev pub invariant-loop-i : goal.invariant-loop-i

@@ -2,7 +2,6 @@
 use mathlib.Core.Path.{sym, ◌∙◌}
 use borrow.Author.Tests.{eq-eqb, ne_eqb}
 use Rattle.find.proofs.Finding.{no-comment, no_row}
-use borrow.Author.Rules.{rules}
 use Rattle.find.proofs.is_named.Goals as goal
 
 pub returns-then-parent_word-parent : goal.returns-then-parent_word-parent

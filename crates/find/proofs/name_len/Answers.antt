@@ -1,8 +1,5 @@
 -- Goals of `find::name_len` that the search leaves.
-use Prim.Native.Nat.{◌-◌}
-use lib.ListN.{length}
-use borrow.Author.Rules.{rules}
-use Rattle.scope.proofs.Splitting.{Sought, sought-start, sought-more, sought-found, sought-none}
+use Rattle.scope.proofs.Splitting.{sought-start, sought-more, sought-found, sought-none}
 use Rattle.find.proofs.name_len.Goals as goal
 
 pub loop-i-init : goal.loop-i-init

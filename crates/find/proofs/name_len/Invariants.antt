@@ -1,8 +1,7 @@
 -- What the loops of `find::name_len` keep.
 use Prim.Native.Nat.{◌-◌}
 use lib.ListN.{length}
-use borrow.Author.Rules.{rules}
-use Rattle.scope.proofs.Splitting.{Sought, sought-start, sought-more, sought-found, sought-none}
+use Rattle.scope.proofs.Splitting.{Sought}
 use Rattle.find.proofs.name_len.Given as goal
 
 abbrev pub invariant-loop-i : goal.invariant-loop-i

@@ -1,12 +1,8 @@
 -- Goals of `find::seek` that the search leaves.
-use Prim.Native.Nat.{◌-◌, ◌≤◌}
-use mathlib.Core.Path.{◌≡◌, sym, ◌∙◌}
+use mathlib.Core.Path.{sym, ◌∙◌}
 use native.Mathlib.Omega.{arith}
-use lib.ListN.{length, drop}
-use Rattle.find.specs.Find.{sought, find_from}
 use Rattle.rows.specs.Rows.{rows_of}
-use Rattle.find.proofs.Finding.{pieces, sought-none, sought-some, name-count, left-length, last_name, next-name}
-use borrow.Author.Rules.{rules}
+use Rattle.find.proofs.Finding.{sought-none, sought-some, name-count, left-length, last_name, next-name}
 use Rattle.find.proofs.seek.Goals as goal
 
 pub returns-then-path-eq0 : goal.returns-then-path-eq0

@@ -1,12 +1,10 @@
 -- What the loops of `find::seek` keep.
 use Prim.Native.Nat.{◌-◌, ◌≤◌}
-use mathlib.Core.Path.{◌≡◌, sym, ◌∙◌}
-use native.Mathlib.Omega.{arith}
+use mathlib.Core.Path.{◌≡◌}
 use lib.ListN.{length, drop}
 use Rattle.find.specs.Find.{sought, find_from}
 use Rattle.rows.specs.Rows.{rows_of}
-use Rattle.find.proofs.Finding.{pieces, sought-none, sought-some, name-count, left-length, last_name, next-name}
-use borrow.Author.Rules.{rules}
+use Rattle.find.proofs.Finding.{pieces}
 use Rattle.find.proofs.seek.Given as goal
 
 abbrev pub invariant-loop-name : goal.invariant-loop-name

@@ -1,15 +1,8 @@
 -- Goals of `tree::good_table` that the search leaves.
-use Prim.Native.Nat.{◌-◌, ◌≤◌}
-use mathlib.Core.Path.{◌≡◌, sym, ◌∙◌}
+use mathlib.Core.Path.{sym, ◌∙◌}
 use native.Mathlib.Omega.{arith}
-use borrow.Author.Rules.{rules}
-use Rattle.rows.specs.Good.{is_good_from, is_good_table}
-use Rattle.rows.specs.Rows.{top, rows_of}
-use Rattle.tree.specs.Chain.{chain, base, Under}
-use Rattle.tree.specs.Chain.{rest}
 use Rattle.tree.proofs.Rows.{last_row}
 use Rattle.tree.proofs.Chains.{too_many, good_start, base-start, under-start, row-off, row_on}
-use borrow.Author.Rules.{rules}
 use Rattle.tree.proofs.good_table.Goals as goal
 
 pub returns-then-n-gt-MOST_ROWS : goal.returns-then-n-gt-MOST_ROWS

@@ -1,15 +1,10 @@
 -- What the loops of `tree::good_table` keep.
 use Prim.Native.Nat.{◌-◌, ◌≤◌}
-use mathlib.Core.Path.{◌≡◌, sym, ◌∙◌}
-use native.Mathlib.Omega.{arith}
-use borrow.Author.Rules.{rules}
+use mathlib.Core.Path.{◌≡◌}
 use Rattle.rows.specs.Good.{is_good_from, is_good_table}
 use Rattle.rows.specs.Rows.{top, rows_of}
 use Rattle.tree.specs.Chain.{chain, base, Under}
 use Rattle.tree.specs.Chain.{rest}
-use Rattle.tree.proofs.Rows.{last_row}
-use Rattle.tree.proofs.Chains.{too_many, good_start, base-start, under-start, row-off, row_on}
-use borrow.Author.Rules.{rules}
 use Rattle.tree.proofs.good_table.Given as goal
 
 abbrev pub invariant-loop-i : goal.invariant-loop-i

@@ -2,7 +2,6 @@
 use mathlib.Core.Path.{sym, ◌∙◌}
 use borrow.Author.Tests.{ne_eqb}
 use Rattle.tree.specs.Chain.{parent_at}
-use borrow.Author.Rules.{rules}
 use Rattle.tree.proofs.is_var_of.Goals as goal
 
 pub returns-then-kind_at-eq-VAR : goal.returns-then-kind_at-eq-VAR

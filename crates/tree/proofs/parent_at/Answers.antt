@@ -1,6 +1,5 @@
 -- Goals of `tree::parent_at` that the search leaves.
 use Rattle.tree.specs.Chain.{parent_at}
-use borrow.Author.Rules.{rules}
 use Rattle.tree.proofs.parent_at.Goals as goal
 
 pub returns : goal.returns

@@ -2,7 +2,6 @@
 use mathlib.Core.Path.{sym, ◌∙◌}
 use native.Mathlib.Omega.{arith}
 use Rattle.tree.proofs.Chains.{no-parent, no_row, too-deep, scope-stands, leaf-stands}
-use borrow.Author.Rules.{rules}
 use Rattle.tree.proofs.stand.Goals as goal
 
 pub returns-then-kind-eq0 : goal.returns-then-kind-eq0

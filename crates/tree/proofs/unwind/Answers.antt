@@ -1,9 +1,5 @@
 -- Goals of `tree::unwind` that the search leaves.
-use Prim.Native.Nat.{ℕ}
-use borrow.Author.Rules.{rules}
-use Rattle.tree.specs.Chain.{Under, Unwound}
 use Rattle.tree.proofs.Chains.{next_under, found, none_left, closed}
-use borrow.Author.Rules.{rules}
 use Rattle.tree.proofs.unwind.Goals as goal
 
 pub loop-depth-init : goal.loop-depth-init

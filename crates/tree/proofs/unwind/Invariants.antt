@@ -1,9 +1,6 @@
 -- What the loops of `tree::unwind` keep.
 use Prim.Native.Nat.{ℕ}
-use borrow.Author.Rules.{rules}
 use Rattle.tree.specs.Chain.{Under, Unwound}
-use Rattle.tree.proofs.Chains.{next_under, found, none_left, closed}
-use borrow.Author.Rules.{rules}
 use Rattle.tree.proofs.unwind.Given as goal
 
 abbrev pub invariant-loop-depth : goal.invariant-loop-depth

@@ -1,7 +1,6 @@
 -- Goals of `tree::place::row_outside` that the search leaves.
 use mathlib.Core.Path.{sym, ◌∙◌}
 use Rattle.tree.proofs.Places.{row-outside}
-use borrow.Author.Rules.{rules}
 use Rattle.tree.proofs.place.row_outside.Goals as goal
 
 pub returns-then-within : goal.returns-then-within

@@ -1,13 +1,9 @@
 -- What the loops of `tree::place::some_outside` keep.
 use Prim.Native.Nat.{◌-◌, ◌≤◌}
-use mathlib.Core.Path.{◌≡◌, sym, ap, ◌∙◌}
-use native.Mathlib.Omega.{arith}
+use mathlib.Core.Path.{◌≡◌}
 use Rattle.rows.specs.Rows.{rows_of}
 use Rattle.tree.specs.Chain.{rest}
 use Rattle.tree.specs.Place.{some_outside}
-use Rattle.tree.proofs.Rows.{rest_all}
-use Rattle.tree.proofs.Places.{outside-past, outside-here, outside-more, outside-end}
-use borrow.Author.Rules.{rules}
 use Rattle.tree.proofs.place.some_outside.Given as goal
 
 abbrev pub invariant-loop-i : goal.invariant-loop-i
