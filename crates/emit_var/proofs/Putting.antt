@@ -12,15 +12,12 @@ use denote.Enum.Laws.{vals, owed}
 use denote.Laws.{Is}
 use lib.ListN.{length, take, drop, length-append}
 use lib.Seq.{length-take-le, take-append_seam, drop-append_seam, drop-append-add}
-use Rattle.text.specs.Bytes.{bytes}
 use Rattle.text.specs.Texts.{put_answer, put_bytes}
 use Rattle.text.specs.declared.Placed.{Placed}
 use Rattle.number.specs.Decimal.{decimal_of}
 use Rattle.number.proofs.Writing.{one-digit, more-digits, short}
-use Rattle.idcode.specs.Id.{id_text}
 use Rattle.idcode.specs.declared.IdCode.{IdCode}
 use Rattle.idcode.proofs.Laws.{text-length}
-use Rattle.scope.specs.Types.{var_name}
 use Rattle.scope.specs.declared.ReferenceIndex.{ReferenceIndex}
 use Rattle.scope.specs.declared.VarType.{VarType}
 use Rattle.scope.specs.Index.{SizedIndex}

@@ -1,6 +1,5 @@
 -- Goals of `emit_var::emit_near` that the search leaves.
 use Rattle.scope.specs.Types.{var_name}
-use borrow.Author.Rules.{rules}
 use Rattle.text.specs.Bytes.{bytes}
 use Rattle.idcode.specs.Id.{id_text}
 use Rattle.number.specs.Decimal.{decimal_of}

@@ -1,7 +1,6 @@
 -- Goals of `emit_var::emit_var` that the search leaves.
 use Prim.Native.Nat.{◌-◌, ◌≤◌}
 use native.Mathlib.Omega.{arith}
-use borrow.Author.Rules.{rules}
 use lib.ListN.{length}
 use lib.Seq.{take_all}
 use Rattle.emit_var.specs.Define.{var_text}

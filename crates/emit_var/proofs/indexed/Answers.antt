@@ -1,7 +1,6 @@
 -- Goals of `emit_var::indexed` that the search leaves.
 use mir.Val.{SFits}
 use Rattle.scope.specs.declared.ReferenceIndex.{ReferenceIndex}
-use borrow.Author.Rules.{rules}
 use mir.Syntax.{w32}
 use mir.ValLaws.{to_z-of_z}
 use Rattle.emit_var.proofs.Spelling.{spaced-index}

@@ -1,9 +1,7 @@
 -- Goals of `emit_var::is_wire` that the search leaves.
 use Prim.Native.Nat.{ℕ}
 use mathlib.Core.Path.{◌≡◌, refl}
-use mathlib.Core.List.{List, [], ◌∷◌}
 use native.Mathlib.Omega.{arith}
-use borrow.Author.Rules.{rules}
 use Rattle.emit_var.proofs.is_wire.Goals as goal
 
 pub returns-in-Wire : goal.returns-in-Wire

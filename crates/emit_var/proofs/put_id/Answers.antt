@@ -1,6 +1,5 @@
 -- Goals of `emit_var::put_id` that the search leaves.
 use native.Mathlib.Omega.{arith}
-use borrow.Author.Rules.{rules}
 use Rattle.emit_var.proofs.Putting.{part_count, part-full}
 use Rattle.emit_var.proofs.put_id.Goals as goal
 

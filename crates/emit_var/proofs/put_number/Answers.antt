@@ -1,7 +1,6 @@
 -- Goals of `emit_var::put_number` that the search leaves.
 use mathlib.Core.Path.{ap}
 use native.Mathlib.Omega.{arith}
-use borrow.Author.Rules.{rules}
 use lib.ListN.{length}
 use Rattle.number.proofs.Writing.{one-digit, length-one}
 use Rattle.emit_var.proofs.Putting.{both, two_digits, part_count, part-full}

@@ -1,7 +1,6 @@
 -- Goals of `emit_var::put_signed` that the search leaves.
 use mathlib.Core.Path.{ap}
 use native.Mathlib.Omega.{arith}
-use borrow.Author.Rules.{rules}
 use lib.ListN.{length}
 use Rattle.text.specs.Bytes.{bytes}
 use Rattle.number.proofs.Negating.{write-plain, write-from-zero, write-wide, write-other, write-size, write-digits}

@@ -1,5 +1,4 @@
 -- Goals of `emit_var::spaced` that the search leaves.
-use borrow.Author.Rules.{rules}
 use Rattle.emit_var.proofs.Spelling.{spaced-text}
 use Rattle.emit_var.proofs.spaced.Goals as goal
 

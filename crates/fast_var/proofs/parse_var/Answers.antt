@@ -28,5 +28,5 @@ sized-requires c =
 
 pub returns-in-Hit : goal.returns-in-Hit
 returns-in-Hit c =
-    hits c.spaces_end.ensures (begun (goal.at.returns-in-Hit c).Else-not-begins)
+    hits c.spaces_end-first.ensures (begun (goal.at.returns-in-Hit c).Else-not-begins)
     c.spaces_end.ensures _ (typed (goal.at.returns-in-Hit c).In-Hit) c.sized.result c.sized.ensures

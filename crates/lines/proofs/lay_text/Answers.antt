@@ -24,4 +24,4 @@ pub returns : goal.returns
 returns c =
     let x = c.args in
     laid x.name.now x.time.now x.line.now x.value.now x.out.now 0 _ (zero-add _) c.has_room.ensures c.if-not-has_room.false-raw
-    c.put_five.ensures c.put_five.ensures
+    c.put_five-n.ensures c.put_five.ensures
