@@ -1,4 +1,4 @@
-//! Links libvcd.a, made by `rt staticlib vcd` at the repository's root, or the one in the folder VCD_LIB_DIR.
+//! Links libvcd.a, made by `bindings/archive`, or the one in the folder VCD_LIB_DIR.
 use std::env;
 use std::path::PathBuf;
 
@@ -7,7 +7,7 @@ fn main() {
     let folder = env::var_os("VCD_LIB_DIR").map_or(made, PathBuf::from);
     let archive = folder.join("libvcd.a");
     if !archive.is_file() {
-        panic!("{} is missing: run `rt staticlib vcd` at the repository's root, or set VCD_LIB_DIR", archive.display());
+        panic!("{} is missing: run `bindings/archive`, or set VCD_LIB_DIR", archive.display());
     }
     println!("cargo:rerun-if-env-changed=VCD_LIB_DIR");
     println!("cargo:rerun-if-changed={}", archive.display());

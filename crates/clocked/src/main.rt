@@ -7,10 +7,10 @@ mod write_dump;
 
 ghost use Rattle.std.specs.Prelude.{◌≡◌, length};
 
-fn main() {
+fn main(rt: HostRuntime) {
     let mut dump = buffer();
     let n = write_dump::write_clocked_vcd(0xC0DE1234, &mut dump);
-    let first = console::write_front(&dump, n);
+    let first = console::write_front(rt.stdout(), &dump, n);
     let mut line = [0u8; 32];
     let m = console::put_number(
         &mut line,
@@ -18,8 +18,14 @@ fn main() {
         read::read_clocked_vcd(console::front(&dump, n)) as u64,
     );
     let m = console::put_byte(&mut line, m, b'\n');
-    let second = console::write_front(&line, m);
-    console::finish(first && second, true, b"clocked: writing failed\n");
+    let second = console::write_front(rt.stdout(), &line, m);
+    console::finish(
+        rt.stderr(),
+        &rt,
+        first && second,
+        true,
+        b"clocked: writing failed\n",
+    );
 }
 
 fn buffer() -> [u8; 4096]

@@ -1,9 +1,12 @@
-// The programs' descriptors, and short texts put into a buffer: what the programs share. Nothing is promised of these but that they are
-// safe and end.
+// The programs' standard streams and their outcome, and short texts put into a buffer: what the programs share. Nothing is promised of these
+// but that they are safe and end. Each function is passed what it may reach: a stream by its handle, the outcome's descriptor as a file.
 #![tactic(auto)]
 
 ghost use Rattle.std.specs.Prelude.{◌≤◌};
 
+use std::fs::{Files, OpenOptions};
+use std::io;
+use std::io::{ErrorKind, Read, Stderr, Stdin, Stdout, Write};
 pub use text::front;
 
 // What was read of standard input: so many bytes, up to its end or the buffer's; or nothing that can be counted on.
@@ -13,7 +16,7 @@ pub enum Input {
     Failed,
 }
 
-// What a program writes to descriptor 3 as its last act, since `main` has no status: the dump was whole, it was not, or reading or
+// What a program writes to descriptor 3 as its last act, since its status says nothing: the dump was whole, it was not, or reading or
 // writing failed.
 pub const WHOLE: u8 = b'0';
 
@@ -24,21 +27,17 @@ pub const FAILED: u8 = b'2';
 // How often a call is made that is interrupted each time: so that it ends.
 const TRIES: u64 = 1000000;
 
-const INPUT: i32 = 0;
-
-const OUTPUT: i32 = 1;
-
-const ERROR: i32 = 2;
-
-const OUTCOME: i32 = 3;
+// Descriptor 3 by name: std reaches no descriptor by its number but those of the standard streams.
+const OUTCOME: &str = "/proc/self/fd/3";
 
 // Reads standard input until it ends or the buffer is full.
-pub fn read_input(buf: &mut [u8]) -> Input {
+pub fn read_input(stdin: Stdin, buf: &mut [u8]) -> Input {
+    let mut from = stdin;
     let mut n: usize = 0;
     while n < buf.len() {
         let room = buf.len() - n;
-        let got = read_some(&mut buf[n..]);
-        if got < 0 {
+        let got = read_some(&mut from, &mut buf[n..]);
+        if got.is_err() {
             return Input::Failed;
         }
         let more = moved(got, room);
@@ -51,45 +50,55 @@ pub fn read_input(buf: &mut [u8]) -> Input {
 }
 
 // Writes the first n bytes of a buffer to standard output, and answers whether all were written.
-pub fn write_front(s: &[u8], n: usize) -> bool {
-    write_all(OUTPUT, front(s, n))
+pub fn write_front(stdout: Stdout, s: &[u8], n: usize) -> bool {
+    let mut to = stdout;
+    write_all(&mut to, front(s, n))
 }
 
 // Writes a line to standard error. Where that fails too, the outcome is left to say so.
-pub fn write_error(line: &[u8]) {
-    write_all(ERROR, line);
+pub fn write_error(stderr: Stderr, line: &[u8]) {
+    let mut to = stderr;
+    write_all(&mut to, line);
 }
 
-// Writes the outcome, if somebody takes it.
-pub fn write_outcome(digit: u8) {
-    write_all(OUTCOME, &[digit]);
+// Writes the outcome, if somebody takes it. What descriptor 3 is, is opened anew: to append, as what was written there before stays, and to
+// read too, as a pipe that nobody reads any more would be waited for.
+pub fn write_outcome(files: &impl Files, digit: u8) {
+    let mut how = OpenOptions::new();
+    how.read(true);
+    how.append(true);
+    let Ok(file) = how.open(files, OUTCOME) else {
+        return;
+    };
+    let mut to = file;
+    write_all(&mut to, &[digit]);
 }
 
 // The last act of a program that failed: the line says how.
-pub fn fail(line: &[u8]) {
-    write_error(line);
-    write_outcome(FAILED);
+pub fn fail(stderr: Stderr, files: &impl Files, line: &[u8]) {
+    write_error(stderr, line);
+    write_outcome(files, FAILED);
 }
 
 // The last act of a program: whether its input was whole, unless it was not all written, as the line says.
-pub fn finish(written: bool, whole: bool, line: &[u8]) {
+pub fn finish(stderr: Stderr, files: &impl Files, written: bool, whole: bool, line: &[u8]) {
     if !written {
-        fail(line);
+        fail(stderr, files, line);
         return;
     }
     if whole {
-        write_outcome(WHOLE);
+        write_outcome(files, WHOLE);
         return;
     }
-    write_outcome(PARTIAL);
+    write_outcome(files, PARTIAL);
 }
 
 // A write that moves nothing would move nothing again: it ends this as one that fails.
-fn write_all(fd: i32, s: &[u8]) -> bool {
+fn write_all<W: Write>(to: &mut W, s: &[u8]) -> bool {
     let mut done: usize = 0;
     while done < s.len() {
         let room = s.len() - done;
-        let put = moved(write_some(fd, &s[done..]), room);
+        let put = moved(write_some(to, &s[done..]), room);
         if put == 0 {
             return false;
         }
@@ -99,47 +108,43 @@ fn write_all(fd: i32, s: &[u8]) -> bool {
 }
 
 // One read, made again where it was interrupted.
-fn read_some(buf: &mut [u8]) -> isize {
-    let mut tries: u64 = 0;
-    while tries < TRIES {
-        let got = libc::read(INPUT, buf);
+fn read_some<R: Read>(from: &mut R, buf: &mut [u8]) -> io::Result<usize> {
+    for _ in 0..TRIES {
+        let got = from.read(buf);
         if !interrupted(got) {
             return got;
         }
-        tries += 1;
     }
-    -1
+    Err(io::Error::from(ErrorKind::Interrupted))
 }
 
 // One write, made again where it was interrupted.
-fn write_some(fd: i32, s: &[u8]) -> isize {
-    let mut tries: u64 = 0;
-    while tries < TRIES {
-        let put = libc::write(fd, s);
+fn write_some<W: Write>(to: &mut W, s: &[u8]) -> io::Result<usize> {
+    for _ in 0..TRIES {
+        let put = to.write(s);
         if !interrupted(put) {
             return put;
         }
-        tries += 1;
     }
-    -1
+    Err(io::Error::from(ErrorKind::Interrupted))
 }
 
 // Whether a call that answered so was interrupted.
-fn interrupted(got: isize) -> bool {
-    if 0 <= got {
-        return false;
+fn interrupted(got: io::Result<usize>) -> bool {
+    match got {
+        Ok(_) => false,
+        Err(e) => e.kind() == ErrorKind::Interrupted,
     }
-    os::errno() == libc::EINTR
 }
 
 // How many bytes a call moved, of `most` that it was handed; none where it failed.
-fn moved(got: isize, most: usize) -> usize
+fn moved(got: io::Result<usize>, most: usize) -> usize
     ensures { result ≤ most }
 {
-    if got <= 0 {
-        return 0;
+    match got {
+        Ok(n) => text::least(n, most),
+        Err(_) => 0,
     }
-    text::least(got as usize, most)
 }
 
 // Puts `word` into `out` from `at` on, as far as there is room, and answers the place after it. So do all that follow.

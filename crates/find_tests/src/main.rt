@@ -7,12 +7,17 @@ use replay::{put, put_byte, put_number, put_word};
 use rows::Row;
 use text::Text;
 
-fn main() {
+fn main(rt: HostRuntime) {
     let mut input = [0u8; 4096];
     let mut out = [0u8; 4096];
-    let n = replay::read_input(&mut input);
+    let n = replay::read_input(rt.stdin(), &mut input);
     let used = answer_all(replay::front(&input, n), &mut out);
-    replay::finish(replay::write_front(&out, used));
+    replay::finish(
+        rt.stdin(),
+        rt.stderr(),
+        &rt,
+        replay::write_front(rt.stdout(), &out, used),
+    );
 }
 
 // The header ends at its `$enddefinitions`, and the paths begin after the line `--`.

@@ -4,21 +4,28 @@ ghost use Rattle.list_job.specs.Turns.{row_words, change_words};
 
 use crate::Printed;
 use list_job::State;
+use std::io::Stdout;
 
 // Prints the listing of a dump. A write that fails ends it.
-pub fn print_list(input: &[u8], out: &mut [u8]) -> Printed {
+pub fn print_list(stdout: Stdout, input: &[u8], out: &mut [u8]) -> Printed {
     let mut rows = [0u64; list_job::ROW_WORDS];
     let mut changes = [0u64; list_job::CHANGE_WORDS];
-    take_turns(input, &mut rows, &mut changes, out)
+    take_turns(stdout, input, &mut rows, &mut changes, out)
 }
 
-fn take_turns(input: &[u8], rows: &mut [u64], changes: &mut [u64], out: &mut [u8]) -> Printed
+fn take_turns(
+    stdout: Stdout,
+    input: &[u8],
+    rows: &mut [u64],
+    changes: &mut [u64],
+    out: &mut [u8],
+) -> Printed
     requires { (length rows.old ≡ row_words) × (length changes.old ≡ change_words) }
 {
     let mut state = State::Begin;
     while !list_job::is_finished(state) {
         let t = list_job::take_turn(input, state, rows, changes, out);
-        if !console::write_front(out, t.count) {
+        if !console::write_front(stdout, out, t.count) {
             return Printed {
                 written: false,
                 whole: false,

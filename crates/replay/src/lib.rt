@@ -10,6 +10,8 @@ use console::Input;
 pub use console::{front, put, put_byte, write_front};
 pub use line::{put_case, put_number, put_open, put_text, put_values, put_word};
 use number::Number;
+use std::fs::Files;
+use std::io::{Stderr, Stdin, Stdout};
 use text::Text;
 pub use text::least;
 
@@ -76,13 +78,13 @@ pub struct Fed {
 }
 
 // The case at `at`; where the buffer has not the whole of it, the rest is read after what is there of it.
-pub fn next_case(buf: &mut [u8], at: usize, have: usize) -> Fed {
+pub fn next_case(stdin: Stdin, buf: &mut [u8], at: usize, have: usize) -> Fed {
     let case = case_at(front(buf, have), at);
     if let Case::At(_) = case {
         return Fed { case, have };
     }
     let kept = to_front(buf, at, have);
-    let filled = read_on(buf, kept);
+    let filled = read_on(stdin, buf, kept);
     let more = case_at(front(buf, filled), 0);
     Fed {
         case: more,
@@ -106,12 +108,12 @@ fn to_front(buf: &mut [u8], at: usize, have: usize) -> usize {
 }
 
 // Fills the buffer from `at` on, and answers where it is filled to.
-fn read_on(buf: &mut [u8], at: usize) -> usize {
+fn read_on(stdin: Stdin, buf: &mut [u8], at: usize) -> usize {
     if buf.len() < at {
         return at;
     }
     let room = buf.len() - at;
-    at + least(read_input(&mut buf[at..]), room)
+    at + least(read_input(stdin, &mut buf[at..]), room)
 }
 
 // The line that begins at `at`, without its LF.
@@ -171,19 +173,19 @@ pub fn number_in(s: &[u8]) -> u64 {
 }
 
 // Writes what is answered once the buffer is half full, and answers how much of it is used then. What cannot be written stays.
-pub fn flush(out: &[u8], used: usize) -> usize {
+pub fn flush(stdout: Stdout, out: &[u8], used: usize) -> usize {
     if used <= out.len() / 2 {
         return used;
     }
-    if write_front(out, used) {
+    if write_front(stdout, out, used) {
         return 0;
     }
     used
 }
 
 // Reads standard input. A read that fails ends it, and `finish` meets it again.
-pub fn read_input(buf: &mut [u8]) -> usize {
-    match console::read_input(buf) {
+pub fn read_input(stdin: Stdin, buf: &mut [u8]) -> usize {
+    match console::read_input(stdin, buf) {
         Input::Read(n) => n,
         Input::Failed => 0,
     }
@@ -191,10 +193,16 @@ pub fn read_input(buf: &mut [u8]) -> usize {
 
 // The last act of a program that answers all of standard input: it fails where no more can be read or the last answers were not
 // written, and is not whole where something is left to be read.
-pub fn finish(written: bool) {
+pub fn finish(stdin: Stdin, stderr: Stderr, files: &impl Files, written: bool) {
     let mut more = [0u8; 1];
-    match console::read_input(&mut more) {
-        Input::Read(n) => console::finish(written, n == 0, b"replay: writing failed\n"),
-        Input::Failed => console::fail(b"replay: reading failed\n"),
+    match console::read_input(stdin, &mut more) {
+        Input::Read(n) => console::finish(
+            stderr,
+            files,
+            written,
+            n == 0,
+            b"replay: writing failed\n",
+        ),
+        Input::Failed => console::fail(stderr, files, b"replay: reading failed\n"),
     }
 }

@@ -7,6 +7,7 @@ use replay::line::{Line, Shown, Word};
 use replay::{line, put, put_byte, put_word};
 use rows::{Parent, Row, WORDS};
 use scope::Var;
+use std::io::Stdout;
 use text::{Spelled, Text};
 use token::Cursor;
 
@@ -18,7 +19,14 @@ const ODD: usize = 7;
 
 const MOST_ROWS: usize = 5000;
 
-pub fn answer(case: &[u8], number: u64, table: &mut [u64], out: &mut [u8], at: usize) -> usize {
+pub fn answer(
+    stdout: Stdout,
+    case: &[u8],
+    number: u64,
+    table: &mut [u64],
+    out: &mut [u8],
+    at: usize,
+) -> usize {
     let o = replay::put_case(out, at, number);
     let head = replay::line_at(case, 0);
     let rows = replay::number_in(text::part(case, head));
@@ -31,7 +39,7 @@ pub fn answer(case: &[u8], number: u64, table: &mut [u64], out: &mut [u8], at: u
             len: case.len(),
         },
     );
-    answer_dump(dump, &mut table[..lent], out, o)
+    answer_dump(stdout, dump, &mut table[..lent], out, o)
 }
 
 // The words of so many rows.
@@ -44,9 +52,9 @@ fn words_of(rows: usize) -> usize
     rows * WORDS
 }
 
-fn answer_dump(dump: &[u8], table: &mut [u64], out: &mut [u8], at: usize) -> usize {
+fn answer_dump(stdout: Stdout, dump: &[u8], table: &mut [u64], out: &mut [u8], at: usize) -> usize {
     let a = read_filled(dump, table);
-    put_answer(out, at, dump, table, a)
+    put_answer(stdout, out, at, dump, table, a)
 }
 
 // Fills the table and reads the header into it.
@@ -75,25 +83,39 @@ fn is_marked(table: &[u64], at: usize) -> bool {
     true
 }
 
-fn put_answer(out: &mut [u8], at: usize, s: &[u8], table: &[u64], a: HeaderAnswer) -> usize {
+fn put_answer(
+    stdout: Stdout,
+    out: &mut [u8],
+    at: usize,
+    s: &[u8],
+    table: &[u64],
+    a: HeaderAnswer,
+) -> usize {
     let h = a.header;
     let e = a.ended;
     let c = a.cursor;
-    let o = put_rows(out, at, s, table, a.count);
+    let o = put_rows(stdout, out, at, s, table, a.count);
     let p = put_kept(out, o, s, h);
     let q = put_ended(out, p, s, e, c);
     if is_marked(table, words_of(a.count)) {
-        return replay::flush(out, q);
+        return replay::flush(stdout, out, q);
     }
     put(out, q, b"spoilt\n")
 }
 
-fn put_rows(out: &mut [u8], at: usize, s: &[u8], table: &[u64], count: usize) -> usize {
+fn put_rows(
+    stdout: Stdout,
+    out: &mut [u8],
+    at: usize,
+    s: &[u8],
+    table: &[u64],
+    count: usize,
+) -> usize {
     let mut o = at;
     let mut i: usize = 0;
     while i < count {
         o = put_row(out, o, s, rows::row_at(table, i));
-        o = replay::flush(out, o);
+        o = replay::flush(stdout, out, o);
         i += 1;
     }
     o

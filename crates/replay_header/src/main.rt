@@ -7,13 +7,19 @@ mod answer;
 ghost use Rattle.std.specs.Prelude.{◌≡◌, length};
 
 use replay::Case;
+use std::io::{Stdin, Stdout};
 
-fn main() {
+fn main(rt: HostRuntime) {
     let mut input = buffer();
     let mut out = buffer();
     let mut table = table();
-    let used = answer_all(&mut input, &mut table, &mut out);
-    replay::finish(replay::write_front(&out, used));
+    let used = answer_all(rt.stdin(), rt.stdout(), &mut input, &mut table, &mut out);
+    replay::finish(
+        rt.stdin(),
+        rt.stderr(),
+        &rt,
+        replay::write_front(rt.stdout(), &out, used),
+    );
 }
 
 // Zeros: room for the longest case, and for answers until they are written.
@@ -31,20 +37,26 @@ fn table() -> [u64; 50007]
 }
 
 // Answers how much of the output is still to be written: the rest was written whenever it was half full.
-fn answer_all(input: &mut [u8], table: &mut [u64], out: &mut [u8]) -> usize {
+fn answer_all(
+    stdin: Stdin,
+    stdout: Stdout,
+    input: &mut [u8],
+    table: &mut [u64],
+    out: &mut [u8],
+) -> usize {
     let mut have: usize = 0;
     let mut at: usize = 0;
     let mut used: usize = 0;
     let mut number: u64 = 0;
     // Every case takes two bytes at least, so this many are enough.
     while number < 4294967295 {
-        let fed = replay::next_case(input, at, have);
+        let fed = replay::next_case(stdin, input, at, have);
         have = fed.have;
         let case = fed.case;
         let Case::At(t) = case else {
             return used;
         };
-        used = answer::answer(text::part(input, t), number, table, out, used);
+        used = answer::answer(stdout, text::part(input, t), number, table, out, used);
         at = replay::after(input, t);
         number += 1;
     }

@@ -7,12 +7,18 @@ ghost use Rattle.std.specs.Prelude.{◌≡◌, length};
 ghost use Rattle.list_job.specs.Turns.{lent};
 
 use replay::Case;
+use std::io::{Stdin, Stdout};
 
-fn main() {
+fn main(rt: HostRuntime) {
     let mut input = buffer();
     let mut out = listed();
     let mut lent = rewritten();
-    replay::finish(answer_all(&mut input, &mut out, &mut lent));
+    replay::finish(
+        rt.stdin(),
+        rt.stderr(),
+        &rt,
+        answer_all(rt.stdin(), rt.stdout(), &mut input, &mut out, &mut lent),
+    );
 }
 
 #[derive(Clone, Copy)]
@@ -43,7 +49,13 @@ fn rewritten() -> [u8; reformat_job::LENT]
 }
 
 // Each case's number, then what the program prints for it, which goes to standard output by itself. Answers whether all was written.
-fn answer_all(input: &mut [u8], out: &mut [u8], lent: &mut [u8]) -> bool {
+fn answer_all(
+    stdin: Stdin,
+    stdout: Stdout,
+    input: &mut [u8],
+    out: &mut [u8],
+    lent: &mut [u8],
+) -> bool {
     let mut have: usize = 0;
     let mut at: usize = 0;
     let mut number: u64 = 0;
@@ -52,12 +64,12 @@ fn answer_all(input: &mut [u8], out: &mut [u8], lent: &mut [u8]) -> bool {
     // Every case and every name takes two bytes at least, so this many are enough.
     while turns < 4294967295 {
         turns += 1;
-        let fed = replay::next_case(input, at, have);
+        let fed = replay::next_case(stdin, input, at, have);
         have = fed.have;
         let case = fed.case;
         match case {
             Case::At(t) => {
-                if !answer(program, text::part(input, t), number, out, lent) {
+                if !answer(stdout, program, text::part(input, t), number, out, lent) {
                     return false;
                 }
                 at = replay::after(input, t);
@@ -96,26 +108,33 @@ fn is_none(program: Program) -> bool {
     }
 }
 
-fn answer(program: Program, dump: &[u8], number: u64, out: &mut [u8], lent: &mut [u8]) -> bool {
-    if !write_case(number, out) {
+fn answer(
+    stdout: Stdout,
+    program: Program,
+    dump: &[u8],
+    number: u64,
+    out: &mut [u8],
+    lent: &mut [u8],
+) -> bool {
+    if !write_case(stdout, number, out) {
         return false;
     }
     match program {
         Program::List => {
-            let p = job::print_list(dump, out);
+            let p = job::print_list(stdout, dump, out);
             p.written
         }
         Program::Reformat => {
-            let p = job::print_reformat(dump, lent);
+            let p = job::print_reformat(stdout, dump, lent);
             p.written
         }
         Program::None => true,
     }
 }
 
-fn write_case(number: u64, out: &mut [u8]) -> bool {
+fn write_case(stdout: Stdout, number: u64, out: &mut [u8]) -> bool {
     let o = replay::put(out, 0, b"case");
     let o = replay::put_number(out, o, number);
     let o = replay::put_byte(out, o, b'\n');
-    replay::write_front(out, o)
+    replay::write_front(stdout, out, o)
 }

@@ -7,12 +7,18 @@ mod answer;
 ghost use Rattle.std.specs.Prelude.{◌≡◌, length};
 
 use replay::Case;
+use std::io::Stdout;
 
-fn main() {
+fn main(rt: HostRuntime) {
     let mut input = buffer();
     let mut out = buffer();
-    let n = replay::read_input(&mut input);
-    replay::finish(answer_all(replay::front(&input, n), &mut out));
+    let n = replay::read_input(rt.stdin(), &mut input);
+    replay::finish(
+        rt.stdin(),
+        rt.stderr(),
+        &rt,
+        answer_all(rt.stdout(), replay::front(&input, n), &mut out),
+    );
 }
 
 // Zeros: room for a chunk of cases, and for more than half of it twice.
@@ -23,7 +29,7 @@ fn buffer() -> [u8; 131072]
 }
 
 // Writes what is answered whenever the output is half full, and at the end; answers whether the last of it was written.
-fn answer_all(input: &[u8], out: &mut [u8]) -> bool {
+fn answer_all(stdout: Stdout, input: &[u8], out: &mut [u8]) -> bool {
     let mut at: usize = 0;
     let mut used: usize = 0;
     let mut number: u64 = 0;
@@ -37,9 +43,9 @@ fn answer_all(input: &[u8], out: &mut [u8]) -> bool {
         at = replay::after(input, t);
         number += 1;
         if 65536 < used {
-            replay::write_front(out, used);
+            replay::write_front(stdout, out, used);
             used = 0;
         }
     }
-    replay::write_front(out, used)
+    replay::write_front(stdout, out, used)
 }

@@ -4,6 +4,7 @@ ghost use Rattle.std.specs.Prelude.{◌≡◌, length};
 use idcode::IdCode;
 use replay::{put, put_byte, put_number};
 use replay_call::Outcome;
+use std::io::Stdout;
 use text::{Spelled, Text};
 use write::Writer;
 
@@ -15,6 +16,7 @@ struct Step {
 }
 
 pub fn answer(
+    stdout: Stdout,
     case: &[u8],
     number: u64,
     one: &mut [u8],
@@ -43,7 +45,7 @@ pub fn answer(
         place = replay::after(case, t);
         let step = answer_call(w, src, text::part(case, t), one, two, out, o);
         w = step.state;
-        o = replay::flush(out, step.at);
+        o = replay::flush(stdout, out, step.at);
         turns += 1;
     }
     o

@@ -9,11 +9,13 @@ use text::Spelled;
 use value::vector;
 use value::vector::Bit;
 
-fn main() {
+fn main(rt: HostRuntime) {
     let mut out = [0u8; 8192];
     let used = report(&mut out);
     console::finish(
-        replay::write_front(&out, used),
+        rt.stderr(),
+        &rt,
+        replay::write_front(rt.stdout(), &out, used),
         true,
         b"unit_tests: writing failed\n",
     );

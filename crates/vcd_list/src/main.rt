@@ -8,21 +8,33 @@ ghost use Rattle.list_job.specs.Turns.{lent};
 
 use console::Input;
 use job::Printed;
+use std::fs::Files;
+use std::io::Stderr;
 
 // One byte more than is taken, so that a longer dump is seen to be one.
 const READ: usize = lines::TAKEN + 1;
 
-fn main() {
+fn main(rt: HostRuntime) {
     let mut input = input();
     let mut out = output();
-    match console::read_input(&mut input) {
-        Input::Read(n) => tell(job::print_list(console::front(&input, n), &mut out)),
-        Input::Failed => console::fail(b"vcd_list: reading failed\n"),
+    match console::read_input(rt.stdin(), &mut input) {
+        Input::Read(n) => tell(
+            rt.stderr(),
+            &rt,
+            job::print_list(rt.stdout(), console::front(&input, n), &mut out),
+        ),
+        Input::Failed => console::fail(rt.stderr(), &rt, b"vcd_list: reading failed\n"),
     }
 }
 
-fn tell(p: Printed) {
-    console::finish(p.written, p.whole, b"vcd_list: writing failed\n");
+fn tell(stderr: Stderr, files: &impl Files, p: Printed) {
+    console::finish(
+        stderr,
+        files,
+        p.written,
+        p.whole,
+        b"vcd_list: writing failed\n",
+    );
 }
 
 fn input() -> [u8; READ]

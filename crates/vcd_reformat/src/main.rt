@@ -6,18 +6,30 @@ ghost use Rattle.reformat_job.specs.Reformat.{lent_bytes};
 
 use console::Input;
 use job::Printed;
+use std::fs::Files;
+use std::io::Stderr;
 
-fn main() {
+fn main(rt: HostRuntime) {
     let mut input = input();
     let mut out = output();
-    match console::read_input(&mut input) {
-        Input::Read(n) => tell(job::print_reformat(console::front(&input, n), &mut out)),
-        Input::Failed => console::fail(b"vcd_reformat: reading failed\n"),
+    match console::read_input(rt.stdin(), &mut input) {
+        Input::Read(n) => tell(
+            rt.stderr(),
+            &rt,
+            job::print_reformat(rt.stdout(), console::front(&input, n), &mut out),
+        ),
+        Input::Failed => console::fail(rt.stderr(), &rt, b"vcd_reformat: reading failed\n"),
     }
 }
 
-fn tell(p: Printed) {
-    console::finish(p.written, p.whole, b"vcd_reformat: writing failed\n");
+fn tell(stderr: Stderr, files: &impl Files, p: Printed) {
+    console::finish(
+        stderr,
+        files,
+        p.written,
+        p.whole,
+        b"vcd_reformat: writing failed\n",
+    );
 }
 
 // One byte more than is taken, so that a longer dump is seen to be one.
