@@ -1,9 +1,8 @@
 -- The ways to answer a command, one law for each.
 use Prim.Native.Nat.{ℕ, ◌≤◌, ◌<◌}
 use mathlib.Core.Path.{◌≡◌, refl, sym, ap, ◌∙◌}
-use mathlib.Core.Bool.{Bool, true, false, not}
+use mathlib.Core.Bool.{Bool, true, false}
 use mathlib.Core.List.{List, []}
-use borrow.Author.Tests.{not-true, not-false}
 use lib.ListN.{length}
 use Rattle.command.specs.Meaning.{meaning}
 use Rattle.command.specs.declared.Command.{Command}
@@ -34,11 +33,11 @@ module _ (out ok : Bool) (w : Writer) (b o : List ℕ) where
 
 -- a text was judged by its bytes v
 module _ (P : List ℕ → Bool) {v t : List ℕ} {r : Bool} (e : v ≡ t) (q : r ≡ P v) where
-  pub judged-no : not r ≡ true → P t ≡ false
-  judged-no h = ap P (sym e) ∙ sym q ∙ not-true r h
+  pub judged-no : r ≡ false → P t ≡ false
+  judged-no h = ap P (sym e) ∙ sym q ∙ h
 
-  pub judged-yes : not r ≡ false → P t ≡ true
-  judged-yes h = ap P (sym e) ∙ sym q ∙ not-false r h
+  pub judged-yes : r ≡ true → P t ≡ true
+  judged-yes h = ap P (sym e) ∙ sym q ∙ h
 
 -- the id that was given is told beside the answer
 pub added_of : (i : IdCode) {r : Written} {o : List ℕ} {x : Outcome} → Does r o x → Adds i (added i r) o x

@@ -6,5 +6,5 @@ use Rattle.fast_var.proofs.four.Goals as goal
 pub returns : goal.returns
 returns c =
     λ e.
-    quad-same c.args.input.now _ (λ i. (c.shared_slice_known-1.given i).fits) _ _ _ _ c.ranges.a.fits c.ranges.b.fits c.ranges.c.fits
+    quad-same c.args.input.now _ (λ i. (c.type_inv.input i).fits) _ _ _ _ c.ranges.a.fits c.ranges.b.fits c.ranges.c.fits
     (sym c.quad-word.ensures ∙ eqb-true _ _ e ∙ c.quad.ensures)

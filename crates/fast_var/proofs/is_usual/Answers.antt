@@ -1,15 +1,13 @@
 -- Goals of `fast_var::is_usual` that the search leaves.
 use Rattle.std.proofs.Common.{◌≡◌, ℕ, ◌+◌, ◌<◌, Bool, true, false, cond, get_or, sym, ap, ◌∙◌, ⊎_elim, arith, rules, eqb-true}
 use mathlib.Core.Bool.{false≢true}
+use borrow.Author.Tests.{eq-eqb, ne_eqb}
 use Rattle.fast_var.proofs.Places.{odd, usual-here}
 use Rattle.fast_var.proofs.is_usual.Goals as goal
-use Rattle.fast_var.proofs.is_usual.Goals.{Joined-wire, Start}
+use Rattle.fast_var.proofs.is_usual.Goals.{Joined-wire, then-wire, else-wire}
 
-abbrev wire : Start → Bool
-wire c = odd c.args.input.now c.args.at
-
-wanted : (c : Joined-wire) → c.if-wire.want ≡ cond (wire c.before.before.before.before) 1701996919 543647090
-wanted c = ⊎_elim (λ w. rw (w.0.taken, w.1)) (λ w. rw (w.0.left, w.1)) c.if-wire.branch
+wanted : (c : Joined-wire) → c.if-wire.want ≡ cond (odd c.args.input.now c.args.at) 1701996919 543647090
+wanted c = elim c.if-wire.branch [ then-wire w ↦ rw (eq-eqb _ 1 w.if-wire.true) w.want-is | else-wire w ↦ rw (ne_eqb _ 1 w.if-wire.false) w.want-is ]
 
 -- there are bytes enough for either
 near : (at n : ℕ) (wire : Bool) → at + 4 < n → at + cond wire 4 3 < n
@@ -21,12 +19,12 @@ returns-then-input-at c = λ e. absurd (false≢true e)
 
 pub bounds-input-usual_end : goal.bounds-input-usual_end
 bounds-input-usual_end c =
-    rw c.usual_end.ensures (near _ _ (wire (goal.at.bounds-input-usual_end c).Start) c.if-input-at.false)
+    rw c.usual_end.ensures (near _ _ (odd c.args.input.now c.args.at) c.if-input-at.false)
 
 pub returns-then-word-want : goal.returns-then-word-want
 returns-then-word-want c =
     λ e.
-    usual-here c.args.input.now c.args.at (λ i. (c.shared_slice_known-then-word-want-1.given i).fits) (wire (goal.at.returns-then-word-want c).Start) c.if-input-at.false
+    usual-here c.args.input.now c.args.at (λ i. (c.type_inv.input i).fits) (odd c.args.input.now c.args.at) c.if-input-at.false
     (sym c.quad-word.ensures ∙ c.if-word-want.true ∙ wanted (goal.at.returns-then-word-want c).Joined-wire)
     (ap (λ (i : ℕ). get_or c.args.input.now i 0) (sym c.usual_end.ensures) ∙ eqb-true _ _ e)
 

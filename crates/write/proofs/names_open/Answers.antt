@@ -1,6 +1,5 @@
 -- Goals of `write::names_open` that the search leaves.
 use mathlib.Core.Path.{ap₂}
-use borrow.Author.Rules.{rules}
 use lib.Dec.{eqb}
 use Rattle.write.specs.Layout.{is_open}
 use Rattle.write.proofs.names_open.Goals as goal

@@ -1,5 +1,4 @@
 -- Goals of `write::raised` that the search leaves.
-use borrow.Author.Rules.{rules}
 use borrow.Author.Tests.{le-leb, lt-leb}
 use Rattle.write.specs.Layout.{raised as raised_id}
 use Rattle.write.proofs.raised.Goals as goal

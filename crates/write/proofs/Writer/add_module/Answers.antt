@@ -1,5 +1,4 @@
 -- Goals of `write::Writer::add_module` that the search leaves.
-use borrow.Author.Rules.{rules}
 use Rattle.write.proofs.Writer.add_module.Goals as goal
 
 pub returns : goal.returns

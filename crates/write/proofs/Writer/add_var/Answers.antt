@@ -1,5 +1,4 @@
 -- Goals of `write::Writer::add_var` that the search leaves.
-use borrow.Author.Rules.{rules}
 use Rattle.write.proofs.Outcomes.{added_of}
 use Rattle.write.proofs.Writer.add_var.Goals as goal
 

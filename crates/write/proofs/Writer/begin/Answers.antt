@@ -1,7 +1,6 @@
 -- Goals of `write::Writer::begin` that the search leaves.
 use Rattle.command.specs.Words.{sim_name}
 use mathlib.Core.Path.{refl}
-use borrow.Author.Rules.{rules}
 use Rattle.text.specs.Bytes.{bytes}
 use Rattle.write.specs.Layout.{layout, state_after}
 use Rattle.write.specs.Call.{call}

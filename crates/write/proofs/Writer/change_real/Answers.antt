@@ -1,7 +1,6 @@
 -- Goals of `write::Writer::change_real` that the search leaves.
 use mathlib.Core.Path.{refl, sym, ◌∙◌}
 use mathlib.Core.Bool.{and-false}
-use borrow.Author.Rules.{rules}
 use Rattle.write.proofs.Ids.{id-none, id-some}
 use Rattle.write.specs.Layout.{layout, state_after, is_id}
 use Rattle.write.specs.Call.{call}
@@ -20,13 +19,13 @@ returns-then-id-eq-NO_ID c = not-writable _ _ _ _ _ (sym c.outside.ensures ∙ c
 pub returns-then-not-is_real : goal.returns-then-not-is_real
 unfolding call
 returns-then-not-is_real c =
-    let ok = judged-no is_short_real c.part-number.ensures c.is_real.ensures c.if-not-is_real.true-raw in
+    let ok = judged-no is_short_real c.part-number.ensures c.is_real.ensures c.if-not-is_real.true in
     not-writable _ _ _ _ _ (sym c.outside.ensures ∙ c.if-outside.false) (rw (ok, and-false (is_id c.args.id)))
 
 pub returns : goal.returns
 unfolding call state_after layout
 returns c =
     let x = c.args in
-    let ok = judged-yes is_short_real c.part-number.ensures c.is_real.ensures c.if-not-is_real.false-raw in
+    let ok = judged-yes is_short_real c.part-number.ensures c.is_real.ensures c.if-not-is_real.false in
     laid_out _ _ _ _ _ (sym c.outside.ensures ∙ c.if-outside.false) (rw (id-some x.id c.if-id-eq-NO_ID.false, ok))
     c.laid.ensures c.emit_text.ensures refl (rw c.part-number.ensures)

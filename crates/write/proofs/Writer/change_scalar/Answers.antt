@@ -1,6 +1,5 @@
 -- Goals of `write::Writer::change_scalar` that the search leaves.
 use mathlib.Core.Path.{refl}
-use borrow.Author.Rules.{rules}
 use Rattle.write.proofs.Ids.{id-none, id-some}
 use Rattle.write.specs.Layout.{layout, state_after}
 use Rattle.write.specs.Call.{call}

@@ -1,6 +1,5 @@
 -- Goals of `write::Writer::command` that the search leaves.
 use mathlib.Core.Path.{refl}
-use borrow.Author.Rules.{rules}
 use Rattle.write.proofs.Outcomes.{long-call, no_text}
 use Rattle.write.proofs.Writer.command.Goals as goal
 

@@ -1,7 +1,5 @@
 -- Goals of `write::Writer::end` that the search leaves.
 use mathlib.Core.Path.{refl, sym, ◌∙◌}
-use borrow.Author.Rules.{rules}
-use borrow.Author.Tests.{not-true, not-false}
 use Rattle.write.specs.Layout.{layout, state_after}
 use Rattle.write.specs.Call.{call}
 use Rattle.text.proofs.Limit.{none-long}

@@ -1,7 +1,6 @@
 -- Goals of `write::Writer::enddefinitions` that the search leaves.
 use mathlib.Core.Path.{refl}
 use native.Mathlib.Omega.{arith}
-use borrow.Author.Rules.{rules}
 use borrow.Author.Tests.{eq-eqb, ne_eqb}
 use Rattle.write.specs.Layout.{layout, state_after}
 use Rattle.write.specs.Call.{call}

@@ -1,5 +1,4 @@
 -- Goals of `write::Writer::laid` that the search leaves.
-use borrow.Author.Rules.{rules}
 use Rattle.write.proofs.Writer.laid.Goals as goal
 
 pub returns-in-Count : goal.returns-in-Count

@@ -2,7 +2,6 @@
 use Rattle.scope.specs.Types.{scope_name}
 use mathlib.Core.Path.{sym, ◌∙◌}
 use mathlib.Core.Bool.{and-false}
-use borrow.Author.Rules.{rules}
 use borrow.Author.Tests.{lt-leb, le-leb}
 use Rattle.text.specs.Bytes.{bytes}
 use Rattle.text.specs.Texts.{part}
@@ -21,7 +20,7 @@ pub returns-then-not-is_name : goal.returns-then-not-is_name
 unfolding call
 returns-then-not-is_name c =
     not-writable _ _ _ _ _ (sym c.outside.ensures ∙ c.if-outside.false)
-    (rw (judged-no is_name c.part-v.ensures c.is_name.ensures c.if-not-is_name.true-raw))
+    (rw (judged-no is_name c.part-v.ensures c.is_name.ensures c.if-not-is_name.true))
 
 pub returns-then-depth-ge64 : goal.returns-then-depth-ge64
 unfolding call
@@ -34,5 +33,5 @@ returns c =
     let x = c.args in
     let kind = row-text (bytes (scope_name x.t)) c.spell-k.ensures c.front.ensures in
     laid_out _ _ _ _ _ (sym c.outside.ensures ∙ c.if-outside.false)
-    (rw (judged-yes is_name c.part-v.ensures c.is_name.ensures c.if-not-is_name.false-raw, lt-leb _ _ c.if-depth-ge64.false))
+    (rw (judged-yes is_name c.part-v.ensures c.is_name.ensures c.if-not-is_name.false, lt-leb _ _ c.if-depth-ge64.false))
     c.laid.ensures c.emit_closed.ensures c.at_depth-w.ensures (rw (kind, c.part-v.ensures))

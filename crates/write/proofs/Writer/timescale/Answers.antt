@@ -1,7 +1,6 @@
 -- Goals of `write::Writer::timescale` that the search leaves.
 use Rattle.timescale.specs.Ieee.{unit_name}
 use mathlib.Core.Path.{refl}
-use borrow.Author.Rules.{rules}
 use borrow.Author.Tests.{lt-leb, le-leb}
 use Rattle.text.specs.Bytes.{bytes}
 use Rattle.number.specs.Decimal.{decimal_of}

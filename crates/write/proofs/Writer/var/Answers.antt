@@ -1,5 +1,4 @@
 -- Goals of `write::Writer::var` that the search leaves.
-use borrow.Author.Rules.{rules}
 use Rattle.write.proofs.Writer.var.Goals as goal
 
 pub returns : goal.returns

@@ -3,7 +3,6 @@ use Prim.Native.Nat.{ℕ}
 use mathlib.Core.Path.{sym, ap, ◌∙◌}
 use mathlib.Core.Bool.{◌&&◌, and-false}
 use mathlib.Core.List.{List}
-use borrow.Author.Rules.{rules}
 use borrow.Author.Tests.{eq-eqb, ne_eqb}
 use Rattle.command.specs.Meaning.{var_def}
 use Rattle.text.specs.Texts.{part}
@@ -26,7 +25,7 @@ pub returns-then-not-is_name : goal.returns-then-not-is_name
 unfolding call
 returns-then-not-is_name c =
     not-writable _ _ _ _ _ (sym c.outside.ensures ∙ c.if-outside.false)
-    (rw (judged-no is_name c.part-v.ensures c.is_name.ensures c.if-not-is_name.true-raw, and-false (is_id c.args.id)))
+    (rw (judged-no is_name c.part-v.ensures c.is_name.ensures c.if-not-is_name.true, and-false (is_id c.args.id)))
 
 pub returns-then-self-eq0 : goal.returns-then-self-eq0
 unfolding call
@@ -37,6 +36,6 @@ unfolding call state_after layout
 returns c =
     let x = c.args in
     laid_out _ _ _ _ _ (sym c.outside.ensures ∙ c.if-outside.false)
-    (rw (id-some x.id c.if-code.false, judged-yes is_name c.part-v.ensures c.is_name.ensures c.if-not-is_name.false-raw, ne_eqb _ _ c.if-self-eq0.false))
+    (rw (id-some x.id c.if-code.false, judged-yes is_name c.part-v.ensures c.is_name.ensures c.if-not-is_name.false, ne_eqb _ _ c.if-self-eq0.false))
     c.laid.ensures c.emit_var.ensures (c.with_id-w.ensures ∙ rw c.raised.ensures)
-    (ap (λ (t : List ℕ). layout (var_def x.var-type x.width x.id t x.index)) c.part-v.ensures)
+    (ap (λ (t : List ℕ). layout (var_def x.var_type x.width x.id t x.index)) c.part-v.ensures)

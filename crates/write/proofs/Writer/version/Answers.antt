@@ -1,5 +1,4 @@
 -- Goals of `write::Writer::version` that the search leaves.
-use borrow.Author.Rules.{rules}
 use Rattle.write.specs.Layout.{layout, state_after}
 use Rattle.write.specs.Call.{call}
 use Rattle.write.proofs.Writer.version.Goals as goal
