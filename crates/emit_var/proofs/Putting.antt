@@ -90,7 +90,7 @@ placed w o h p = rw (le-leb (length w) (length o) h) (ap Placed.Count (p.0 ∙ z
 
 -- ---- how long a definition is
 -- the numbers of an index have 32 bits by their type
-sized : (x : ReferenceIndex) → Is (row the_type) x (vals the_type the_laws x) → SizedIndex x
+pub sized : (x : ReferenceIndex) → Is (row the_type) x (vals the_type the_laws x) → SizedIndex x
 sized ReferenceIndex.None g = tt
 sized (ReferenceIndex.BitSelect a) g = record { sfits = (owed the_type the_laws (ReferenceIndex.BitSelect a) _ g).0.1 }
 sized (ReferenceIndex.Range a b) g =

@@ -4,14 +4,14 @@ use mathlib.Core.Path.{◌≡◌, refl, ap}
 use mathlib.Core.List.{List, ◌++◌, append_assoc}
 use native.Mathlib.Omega.{arith}
 use mir.Syntax.{w32}
-use mir.Val.{of_z, to_z}
+use mir.Val.{SFits, of_z, to_z}
 use mir.ValLaws.{to_z-of_z}
 use Rattle.text.specs.Bytes.{bytes}
 use Rattle.number.specs.Decimal.{signed_of}
 use Rattle.scope.specs.declared.ReferenceIndex.{ReferenceIndex}
 use Rattle.emit.proofs.Storing.{stored-none}
 use Rattle.emit_var.specs.Define.{indexed}
-use Rattle.emit_var.proofs.Putting.{due, more}
+use Rattle.emit_var.proofs.Putting.{due, more, sized}
 use Rattle.emit_var.proofs.put_index.Goals as goal
 
 pub returns-in-None : goal.returns-in-None
@@ -22,7 +22,7 @@ pub returns-in-BitSelect : goal.returns-in-BitSelect
 returns-in-BitSelect c =
     let x = c.args in
     let a = c.in-BitSelect.a in
-    let held : to_z w32 (of_z w32 a) ≡ a = to_z-of_z w32 a (record { sfits = c.in-BitSelect.known_told-1-own.given.0.1 }) in
+    let held : to_z w32 (of_z w32 a) ≡ a = to_z-of_z w32 a (rw c.in-BitSelect.is at (sized x.x c.well_formed.1.1.0)) in
     let whole = due x.out.now x.at (indexed (ReferenceIndex.BitSelect a)) refl (rw c.in-BitSelect.is at c.requires) in
     let digits = signed_of a ++ bytes "]" in
     let space = more (bytes " ") (bytes "[" ++ digits) whole c.put_byte-n.ensures in
@@ -36,9 +36,9 @@ returns-in-Range c =
     let x = c.args in
     let a = c.in-Range.a in
     let b = c.in-Range.b in
-    let told = c.in-Range.known_told-in-Range-1-own.given in
-    let first : to_z w32 (of_z w32 a) ≡ a = to_z-of_z w32 a (record { sfits = told.0.1 }) in
-    let second : to_z w32 (of_z w32 b) ≡ b = to_z-of_z w32 b (record { sfits = told.1.0.1 }) in
+    let told : SFits w32 a × SFits w32 b = rw c.in-Range.is at (sized x.x c.well_formed.1.1.0) in
+    let first : to_z w32 (of_z w32 a) ≡ a = to_z-of_z w32 a told.0 in
+    let second : to_z w32 (of_z w32 b) ≡ b = to_z-of_z w32 b told.1 in
     let whole =
     due x.out.now x.at (indexed (ReferenceIndex.Range a b))
     (ap (λ (l : List ℕ). bytes " [" ++ l) (append_assoc (signed_of a) (bytes ":" ++ signed_of b) (bytes "]")))

@@ -2,6 +2,7 @@
 use Rattle.header.proofs.Duties.{keep-rest}
 use Rattle.header.specs.Level.{keep_of, duty}
 use borrow.Author.Rules.{rules}
+use borrow.Enum.Refused.{opened}
 use Rattle.header.proofs.keep.Goals as goal
 
 pub returns-in-Date : goal.returns-in-Date
@@ -21,4 +22,4 @@ unfolding keep_of duty
 returns-in-Enddefinitions c = rw c.in-Enddefinitions.is
 
 pub returns-in_default : goal.returns-in_default
-returns-in_default c = keep-rest _ _ c.args.k c.in_default.in_default-own.keys5
+returns-in_default c = keep-rest _ _ c.args.k (opened c.in_default.in_default-own.keys5)

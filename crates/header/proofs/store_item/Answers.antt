@@ -4,6 +4,7 @@ use borrow.Author.Tests.{eq-eqb, ne_eqb, lt-ltb, le-ltb}
 use Rattle.header.specs.Level.{item_of, table_of, duty}
 use Rattle.header.proofs.Duties.{item-rest}
 use borrow.Author.Rules.{rules}
+use borrow.Enum.Refused.{opened}
 use Rattle.header.proofs.store_item.Goals as goal
 
 pub returns-then-levels-eq0 : goal.returns-then-levels-eq0
@@ -35,4 +36,4 @@ unfolding item_of table_of duty
 returns-else-cap-n-3 c = rw (c.in-Comment.is, lt-ltb _ _ c.if-cap-n-3.false) (refl, c.put_comment.ensures)
 
 pub returns-in_default : goal.returns-in_default
-returns-in_default c = item-rest _ _ _ _ _ _ c.args.k c.in_default.in_default-own.keys4
+returns-in_default c = item-rest _ _ _ _ _ _ c.args.k (opened c.in_default.in_default-own.keys4)

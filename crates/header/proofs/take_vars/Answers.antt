@@ -16,8 +16,7 @@ use Rattle.header.proofs.take_vars.Goals.{In-Hit}
 
 -- what the quick parse_var told
 told : (c : In-Hit) →
-    let v = c.v-1.given.0 in
-    Reads c.args.input.now c.loop-n.cur.place v.1.0 (var_def v.0 v.0.index)
+    Reads c.args.input.now c.loop-n.cur.place c.in-Hit.end (var_def c.in-Hit.v c.in-Hit.v.index)
 told c = rw c.in-Hit.is at c.parse_var.ensures
 
 pub returns-then-not-placed : goal.returns-then-not-placed

@@ -55,7 +55,7 @@ more : (c : After-step_fast) (d : Cursor) → Told c (Step.Read d)
 more c d q = ran-read _ _ _ _ _ _ (come (run_of c)) d q _ c.step_fast.ensures.2 c.if-cap-n.false
 
 pub returns-then-not-placed : goal.returns-then-not-placed
-returns-then-not-placed c = record { answer = (rw c.answer.ensures (read-bad _ _ _ (sym c.placed.ensures ∙ c.if-not-placed.true))).0; table = (rw c.answer.ensures (read-bad _ _ _ (sym c.placed.ensures ∙ c.if-not-placed.true))).1 }
+returns-then-not-placed c = record { answer = rw c.answer.ensures (read-bad _ _ _ (sym c.placed.ensures ∙ c.if-not-placed.true)).0; table = rw c.answer.ensures (read-bad _ _ _ (sym c.placed.ensures ∙ c.if-not-placed.true)).1 }
 
 pub loop-n-init : goal.loop-n-init
 loop-n-init c = ran-start _ _ _ _ (good-valid _ _ (good (goal.at.loop-n-init c).Else-not-placed)) (omega arith)
@@ -68,7 +68,7 @@ shape_of-records-then-cap-n c = ran-length _ _ _ _ _ _ _ (come (goal.at.shape_of
 
 pub returns-then-cap-n : goal.returns-then-cap-n
 returns-then-cap-n c =
-    record { answer = (rw c.answer-then-cap-n.ensures (ran-full _ _ _ _ _ _ (come (goal.at.returns-then-cap-n c).After-fast_run-ran) (good (goal.at.returns-then-cap-n c).Else-not-placed) (omega (arith, c.if-cap-n.true)))).0; table = (rw c.answer-then-cap-n.ensures (ran-full _ _ _ _ _ _ (come (goal.at.returns-then-cap-n c).After-fast_run-ran) (good (goal.at.returns-then-cap-n c).Else-not-placed) (omega (arith, c.if-cap-n.true)))).1 }
+    record { answer = rw c.answer-then-cap-n.ensures (ran-full _ _ _ _ _ _ (come (goal.at.returns-then-cap-n c).After-fast_run-ran) (good (goal.at.returns-then-cap-n c).Else-not-placed) (omega (arith, c.if-cap-n.true))).0; table = rw c.answer-then-cap-n.ensures (ran-full _ _ _ _ _ _ (come (goal.at.returns-then-cap-n c).After-fast_run-ran) (good (goal.at.returns-then-cap-n c).Else-not-placed) (omega (arith, c.if-cap-n.true))).1 }
 
 pub step_fast-requires : goal.step_fast-requires
 step_fast-requires c =
@@ -102,9 +102,4 @@ shape_of-records-in-Ends c = c.step_fast.auto.records ∙ ran-length _ _ _ _ _ _
 pub returns-in-Ends : goal.returns-in-Ends
 returns-in-Ends c =
     let r = run_of (goal.at.returns-in-Ends c).After-step_fast in
-    record {
-      answer = (rw (c.answer-in-Ends.ensures, c.step_fast.ensures.2)
-          (ran-last _ _ _ _ _ _ (come r) (good r.before.before.before) _ _ (step (goal.at.returns-in-Ends c).After-step_fast _ c.in-Ends.is) c.if-cap-n.false)).0;
-      table = (rw (c.answer-in-Ends.ensures, c.step_fast.ensures.2)
-          (ran-last _ _ _ _ _ _ (come r) (good r.before.before.before) _ _ (step (goal.at.returns-in-Ends c).After-step_fast _ c.in-Ends.is) c.if-cap-n.false)).1;
-    }
+    record { answer = rw (c.answer-in-Ends.ensures, c.step_fast.ensures.2) (ran-last _ _ _ _ _ _ (come r) (good r.before.before.before) _ _ (step (goal.at.returns-in-Ends c).After-step_fast _ c.in-Ends.is) c.if-cap-n.false).0; table = rw (c.answer-in-Ends.ensures, c.step_fast.ensures.2) (ran-last _ _ _ _ _ _ (come r) (good r.before.before.before) _ _ (step (goal.at.returns-in-Ends c).After-step_fast _ c.in-Ends.is) c.if-cap-n.false).1 }

@@ -15,7 +15,7 @@ pub returns-in-Is-writer_of : goal.returns-in-Is-writer_of
 unfolding rewrite_call
 returns-in-Is-writer_of c =
     record {
-      status = (rw (
+      status = rw (
         sym c.cursor_of.ensures ∙ c.in-Is.is,
         sym c.writer_of.ensures ∙ c.in-Is-writer_of.is,
         c.rewrite_status.ensures.status,
@@ -23,9 +23,8 @@ returns-in-Is-writer_of c =
         c.put_writer.ensures,
         c.put_cursor.ensures,
         c.rewrite-a.ensures.answer,
-      )
-          (refl, (refl, (refl, (c.rewrite-a.ensures.bytes, (refl, refl)))))).0;
-      cursor = (rw (
+      ) (refl, (refl, (refl, (c.rewrite-a.ensures.bytes, (refl, refl))))).0;
+      cursor = rw (
         sym c.cursor_of.ensures ∙ c.in-Is.is,
         sym c.writer_of.ensures ∙ c.in-Is-writer_of.is,
         c.rewrite_status.ensures.status,
@@ -33,9 +32,8 @@ returns-in-Is-writer_of c =
         c.put_writer.ensures,
         c.put_cursor.ensures,
         c.rewrite-a.ensures.answer,
-      )
-          (refl, (refl, (refl, (c.rewrite-a.ensures.bytes, (refl, refl)))))).1.0;
-      writer = (rw (
+      ) (refl, (refl, (refl, (c.rewrite-a.ensures.bytes, (refl, refl))))).1.0;
+      writer = rw (
         sym c.cursor_of.ensures ∙ c.in-Is.is,
         sym c.writer_of.ensures ∙ c.in-Is-writer_of.is,
         c.rewrite_status.ensures.status,
@@ -43,9 +41,8 @@ returns-in-Is-writer_of c =
         c.put_writer.ensures,
         c.put_cursor.ensures,
         c.rewrite-a.ensures.answer,
-      )
-          (refl, (refl, (refl, (c.rewrite-a.ensures.bytes, (refl, refl)))))).1.1.0;
-      out = (rw (
+      ) (refl, (refl, (refl, (c.rewrite-a.ensures.bytes, (refl, refl))))).1.1.0;
+      out = rw (
         sym c.cursor_of.ensures ∙ c.in-Is.is,
         sym c.writer_of.ensures ∙ c.in-Is-writer_of.is,
         c.rewrite_status.ensures.status,
@@ -53,9 +50,8 @@ returns-in-Is-writer_of c =
         c.put_writer.ensures,
         c.put_cursor.ensures,
         c.rewrite-a.ensures.answer,
-      )
-          (refl, (refl, (refl, (c.rewrite-a.ensures.bytes, (refl, refl)))))).1.1.1.0;
-      count = (rw (
+      ) (refl, (refl, (refl, (c.rewrite-a.ensures.bytes, (refl, refl))))).1.1.1.0;
+      count = rw (
         sym c.cursor_of.ensures ∙ c.in-Is.is,
         sym c.writer_of.ensures ∙ c.in-Is-writer_of.is,
         c.rewrite_status.ensures.status,
@@ -63,9 +59,8 @@ returns-in-Is-writer_of c =
         c.put_writer.ensures,
         c.put_cursor.ensures,
         c.rewrite-a.ensures.answer,
-      )
-          (refl, (refl, (refl, (c.rewrite-a.ensures.bytes, (refl, refl)))))).1.1.1.1.0;
-      line = (rw (
+      ) (refl, (refl, (refl, (c.rewrite-a.ensures.bytes, (refl, refl))))).1.1.1.1.0;
+      line = rw (
         sym c.cursor_of.ensures ∙ c.in-Is.is,
         sym c.writer_of.ensures ∙ c.in-Is-writer_of.is,
         c.rewrite_status.ensures.status,
@@ -73,28 +68,14 @@ returns-in-Is-writer_of c =
         c.put_writer.ensures,
         c.put_cursor.ensures,
         c.rewrite-a.ensures.answer,
-      )
-          (refl, (refl, (refl, (c.rewrite-a.ensures.bytes, (refl, refl)))))).1.1.1.1.1;
+      ) (refl, (refl, (refl, (c.rewrite-a.ensures.bytes, (refl, refl))))).1.1.1.1.1;
     }
 
 pub returns-in-Bad-writer_of : goal.returns-in-Bad-writer_of
 unfolding rewrite_call
 returns-in-Bad-writer_of c =
-    record {
-      status = (rw (sym c.cursor_of.ensures ∙ c.in-Is.is, sym c.writer_of.ensures ∙ c.in-Bad-writer_of.is)
-          (refl, (refl, (refl, (refl, (refl, refl)))))).0;
-      cursor = (rw (sym c.cursor_of.ensures ∙ c.in-Is.is, sym c.writer_of.ensures ∙ c.in-Bad-writer_of.is)
-          (refl, (refl, (refl, (refl, (refl, refl)))))).1.0;
-      writer = (rw (sym c.cursor_of.ensures ∙ c.in-Is.is, sym c.writer_of.ensures ∙ c.in-Bad-writer_of.is)
-          (refl, (refl, (refl, (refl, (refl, refl)))))).1.1.0;
-      out = (rw (sym c.cursor_of.ensures ∙ c.in-Is.is, sym c.writer_of.ensures ∙ c.in-Bad-writer_of.is)
-          (refl, (refl, (refl, (refl, (refl, refl)))))).1.1.1.0;
-      count = (rw (sym c.cursor_of.ensures ∙ c.in-Is.is, sym c.writer_of.ensures ∙ c.in-Bad-writer_of.is)
-          (refl, (refl, (refl, (refl, (refl, refl)))))).1.1.1.1.0;
-      line = (rw (sym c.cursor_of.ensures ∙ c.in-Is.is, sym c.writer_of.ensures ∙ c.in-Bad-writer_of.is)
-          (refl, (refl, (refl, (refl, (refl, refl)))))).1.1.1.1.1;
-    }
+    record { status = rw (sym c.cursor_of.ensures ∙ c.in-Is.is, sym c.writer_of.ensures ∙ c.in-Bad-writer_of.is) (refl, (refl, (refl, (refl, (refl, refl))))).0; cursor = rw (sym c.cursor_of.ensures ∙ c.in-Is.is, sym c.writer_of.ensures ∙ c.in-Bad-writer_of.is) (refl, (refl, (refl, (refl, (refl, refl))))).1.0; writer = rw (sym c.cursor_of.ensures ∙ c.in-Is.is, sym c.writer_of.ensures ∙ c.in-Bad-writer_of.is) (refl, (refl, (refl, (refl, (refl, refl))))).1.1.0; out = rw (sym c.cursor_of.ensures ∙ c.in-Is.is, sym c.writer_of.ensures ∙ c.in-Bad-writer_of.is) (refl, (refl, (refl, (refl, (refl, refl))))).1.1.1.0; count = rw (sym c.cursor_of.ensures ∙ c.in-Is.is, sym c.writer_of.ensures ∙ c.in-Bad-writer_of.is) (refl, (refl, (refl, (refl, (refl, refl))))).1.1.1.1.0; line = rw (sym c.cursor_of.ensures ∙ c.in-Is.is, sym c.writer_of.ensures ∙ c.in-Bad-writer_of.is) (refl, (refl, (refl, (refl, (refl, refl))))).1.1.1.1.1 }
 
 pub returns-in-Bad : goal.returns-in-Bad
 unfolding rewrite_call
-returns-in-Bad c = record { status = (rw (sym c.cursor_of.ensures ∙ c.in-Bad.is) (refl, (refl, (refl, (refl, (refl, refl)))))).0; cursor = (rw (sym c.cursor_of.ensures ∙ c.in-Bad.is) (refl, (refl, (refl, (refl, (refl, refl)))))).1.0; writer = (rw (sym c.cursor_of.ensures ∙ c.in-Bad.is) (refl, (refl, (refl, (refl, (refl, refl)))))).1.1.0; out = (rw (sym c.cursor_of.ensures ∙ c.in-Bad.is) (refl, (refl, (refl, (refl, (refl, refl)))))).1.1.1.0; count = (rw (sym c.cursor_of.ensures ∙ c.in-Bad.is) (refl, (refl, (refl, (refl, (refl, refl)))))).1.1.1.1.0; line = (rw (sym c.cursor_of.ensures ∙ c.in-Bad.is) (refl, (refl, (refl, (refl, (refl, refl)))))).1.1.1.1.1 }
+returns-in-Bad c = record { status = rw (sym c.cursor_of.ensures ∙ c.in-Bad.is) (refl, (refl, (refl, (refl, (refl, refl))))).0; cursor = rw (sym c.cursor_of.ensures ∙ c.in-Bad.is) (refl, (refl, (refl, (refl, (refl, refl))))).1.0; writer = rw (sym c.cursor_of.ensures ∙ c.in-Bad.is) (refl, (refl, (refl, (refl, (refl, refl))))).1.1.0; out = rw (sym c.cursor_of.ensures ∙ c.in-Bad.is) (refl, (refl, (refl, (refl, (refl, refl))))).1.1.1.0; count = rw (sym c.cursor_of.ensures ∙ c.in-Bad.is) (refl, (refl, (refl, (refl, (refl, refl))))).1.1.1.1.0; line = rw (sym c.cursor_of.ensures ∙ c.in-Bad.is) (refl, (refl, (refl, (refl, (refl, refl))))).1.1.1.1.1 }

@@ -12,36 +12,32 @@ pub returns-in-Is-head_of : goal.returns-in-Is-head_of
 unfolding write_header_call
 returns-in-Is-head_of c =
     record {
-      status = (rw (
+      status = rw (
         sym c.writer_of.ensures ∙ c.in-Is.is,
         sym c.head_of.ensures ∙ c.in-Is-head_of.is,
         ← c.header.ensures.answers,
-      )
-          (c.wrote_header.ensures.status, (c.wrote_header.ensures.writer, (c.header.ensures.leaves, c.wrote_header.ensures.count)))).0;
-      writer = (rw (
+      ) (c.wrote_header.ensures.status, (c.wrote_header.ensures.writer, (c.header.ensures.leaves, c.wrote_header.ensures.count))).0;
+      writer = rw (
         sym c.writer_of.ensures ∙ c.in-Is.is,
         sym c.head_of.ensures ∙ c.in-Is-head_of.is,
         ← c.header.ensures.answers,
-      )
-          (c.wrote_header.ensures.status, (c.wrote_header.ensures.writer, (c.header.ensures.leaves, c.wrote_header.ensures.count)))).1.0;
-      out = (rw (
+      ) (c.wrote_header.ensures.status, (c.wrote_header.ensures.writer, (c.header.ensures.leaves, c.wrote_header.ensures.count))).1.0;
+      out = rw (
         sym c.writer_of.ensures ∙ c.in-Is.is,
         sym c.head_of.ensures ∙ c.in-Is-head_of.is,
         ← c.header.ensures.answers,
-      )
-          (c.wrote_header.ensures.status, (c.wrote_header.ensures.writer, (c.header.ensures.leaves, c.wrote_header.ensures.count)))).1.1.0;
-      count = (rw (
+      ) (c.wrote_header.ensures.status, (c.wrote_header.ensures.writer, (c.header.ensures.leaves, c.wrote_header.ensures.count))).1.1.0;
+      count = rw (
         sym c.writer_of.ensures ∙ c.in-Is.is,
         sym c.head_of.ensures ∙ c.in-Is-head_of.is,
         ← c.header.ensures.answers,
-      )
-          (c.wrote_header.ensures.status, (c.wrote_header.ensures.writer, (c.header.ensures.leaves, c.wrote_header.ensures.count)))).1.1.1;
+      ) (c.wrote_header.ensures.status, (c.wrote_header.ensures.writer, (c.header.ensures.leaves, c.wrote_header.ensures.count))).1.1.1;
     }
 
 pub returns-in-Bad-head_of : goal.returns-in-Bad-head_of
 unfolding write_header_call
-returns-in-Bad-head_of c = record { status = (rw (sym c.writer_of.ensures ∙ c.in-Is.is, sym c.head_of.ensures ∙ c.in-Bad-head_of.is) (refl, (refl, (refl, refl)))).0; writer = (rw (sym c.writer_of.ensures ∙ c.in-Is.is, sym c.head_of.ensures ∙ c.in-Bad-head_of.is) (refl, (refl, (refl, refl)))).1.0; out = (rw (sym c.writer_of.ensures ∙ c.in-Is.is, sym c.head_of.ensures ∙ c.in-Bad-head_of.is) (refl, (refl, (refl, refl)))).1.1.0; count = (rw (sym c.writer_of.ensures ∙ c.in-Is.is, sym c.head_of.ensures ∙ c.in-Bad-head_of.is) (refl, (refl, (refl, refl)))).1.1.1 }
+returns-in-Bad-head_of c = record { status = rw (sym c.writer_of.ensures ∙ c.in-Is.is, sym c.head_of.ensures ∙ c.in-Bad-head_of.is) (refl, (refl, (refl, refl))).0; writer = rw (sym c.writer_of.ensures ∙ c.in-Is.is, sym c.head_of.ensures ∙ c.in-Bad-head_of.is) (refl, (refl, (refl, refl))).1.0; out = rw (sym c.writer_of.ensures ∙ c.in-Is.is, sym c.head_of.ensures ∙ c.in-Bad-head_of.is) (refl, (refl, (refl, refl))).1.1.0; count = rw (sym c.writer_of.ensures ∙ c.in-Is.is, sym c.head_of.ensures ∙ c.in-Bad-head_of.is) (refl, (refl, (refl, refl))).1.1.1 }
 
 pub returns-in-Bad : goal.returns-in-Bad
 unfolding write_header_call
-returns-in-Bad c = record { status = (rw (sym c.writer_of.ensures ∙ c.in-Bad.is) (refl, (refl, (refl, refl)))).0; writer = (rw (sym c.writer_of.ensures ∙ c.in-Bad.is) (refl, (refl, (refl, refl)))).1.0; out = (rw (sym c.writer_of.ensures ∙ c.in-Bad.is) (refl, (refl, (refl, refl)))).1.1.0; count = (rw (sym c.writer_of.ensures ∙ c.in-Bad.is) (refl, (refl, (refl, refl)))).1.1.1 }
+returns-in-Bad c = record { status = rw (sym c.writer_of.ensures ∙ c.in-Bad.is) (refl, (refl, (refl, refl))).0; writer = rw (sym c.writer_of.ensures ∙ c.in-Bad.is) (refl, (refl, (refl, refl))).1.0; out = rw (sym c.writer_of.ensures ∙ c.in-Bad.is) (refl, (refl, (refl, refl))).1.1.0; count = rw (sym c.writer_of.ensures ∙ c.in-Bad.is) (refl, (refl, (refl, refl))).1.1.1 }
