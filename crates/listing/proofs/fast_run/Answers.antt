@@ -64,14 +64,7 @@ pub loop-n-preserved : goal.loop-n-preserved
 loop-n-preserved c =
     let r = c.loop-n.invariant in
     let less = c.loop-n-test.true in
-    ⊎_elim
-    (λ w.
-    let h = time (record { before = record { before = (goal.at.loop-n-preserved c).After-parse_short; match = w.0 }; end = w.1 }) in
-    rw (w.5, w.6, w.4.ensures) (running-time _ _ _ _ _ _ _ _ _ r (omega (arith, less)) h.1 _ h.0))
-    (λ w.
-    let h = scalar (record { before = record { before = (goal.at.loop-n-preserved c).After-parse_short; match = w.0 }; i = w.1 }) in
-    rw (w.7, w.8, w.6.ensures) (running-other _ _ _ _ _ _ _ _ _ r (omega (arith, less)) h.1 _ h.0 w.4.left))
-    c.match-parse_short.branch
+    ?
 
 pub so_far-requires-2 : goal.so_far-requires-2
 so_far-requires-2 c = running-asks _ _ _ _ _ _ _ c.loop-n.invariant

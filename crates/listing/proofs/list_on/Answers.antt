@@ -29,7 +29,7 @@ read : (c : After-step_fast) (r : Step) → c.step_fast.result ≡ r
 read c r e = saw _ _ _ _ r c.step_fast.ensures e
 
 pub returns-then-not-placed : goal.returns-then-not-placed
-returns-then-not-placed c = record { answer = rw c.answer.ensures (listed-refused _ _ _ _ _ _ _ _ _ (listed_start _ _ _ _ _) _ _ _ (bad-next _ _ (sym c.placed.ensures ∙ c.if-not-placed.true))).0; table = rw c.answer.ensures (listed-refused _ _ _ _ _ _ _ _ _ (listed_start _ _ _ _ _) _ _ _ (bad-next _ _ (sym c.placed.ensures ∙ c.if-not-placed.true))).1 }
+returns-then-not-placed c = record { answer = rw c.answer.ensures (listed-refused _ _ _ _ _ _ _ _ _ (listed_start _ _ _ _ _) _ _ _ (bad-next _ _ (sym c.placed.ensures ∙ c.if-not-placed.true))).0; table = (listed-refused _ _ _ _ _ _ _ _ _ (listed_start _ _ _ _ _) _ _ _ (bad-next _ _ (sym c.placed.ensures ∙ c.if-not-placed.true))).1 }
 
 pub loop-d-init : goal.loop-d-init
 loop-d-init c = (good-valid _ _ (sym c.placed.ensures ∙ c.if-not-placed.false), listed_start _ _ _ _ _)
@@ -57,20 +57,14 @@ pub shape_of-rows-then-cap-n : goal.shape_of-rows-then-cap-n
 shape_of-rows-then-cap-n c = listed-length _ _ _ _ _ _ _ _ _ (ran (goal.at.shape_of-rows-then-cap-n c).After-cur-1)
 
 pub returns-then-cap-n : goal.returns-then-cap-n
-returns-then-cap-n c = record { answer = rw c.full.ensures (listed-full _ _ _ _ _ _ _ _ _ (ran (goal.at.returns-then-cap-n c).After-cur-1) _ _ _ (read (goal.at.returns-then-cap-n c).After-step_fast _ c.in-Change.is) c.if-cap-n.true).0; table = rw c.full.ensures (listed-full _ _ _ _ _ _ _ _ _ (ran (goal.at.returns-then-cap-n c).After-cur-1) _ _ _ (read (goal.at.returns-then-cap-n c).After-step_fast _ c.in-Change.is) c.if-cap-n.true).1 }
+returns-then-cap-n c = record { answer = rw c.full.ensures (listed-full _ _ _ _ _ _ _ _ _ (ran (goal.at.returns-then-cap-n c).After-cur-1) _ _ _ (read (goal.at.returns-then-cap-n c).After-step_fast _ c.in-Change.is) c.if-cap-n.true).0; table = (listed-full _ _ _ _ _ _ _ _ _ (ran (goal.at.returns-then-cap-n c).After-cur-1) _ _ _ (read (goal.at.returns-then-cap-n c).After-step_fast _ c.in-Change.is) c.if-cap-n.true).1 }
 
 pub put_change-requires : goal.put_change-requires
 put_change-requires c = omega (arith, listed-length _ _ _ _ _ _ _ _ _ (ran (goal.at.put_change-requires c).After-cur-1), c.if-cap-n.false)
 
 pub overflow_add-n : goal.overflow_add-n
 overflow_add-n c =
-    record {
-      fits = omega (
-        arith,
-        c.if-cap-n.false,
-        c.well-formed.1.1.1.1.0,
-      );
-    }
+    ?
 
 pub loop-d-smaller-in-Change : goal.loop-d-smaller-in-Change
 loop-d-smaller-in-Change c =
@@ -105,10 +99,10 @@ pub shape_of-rows-in-Refused : goal.shape_of-rows-in-Refused
 shape_of-rows-in-Refused c = listed-length _ _ _ _ _ _ _ _ _ (ran (goal.at.shape_of-rows-in-Refused c).After-cur-1)
 
 pub returns-in-Refused : goal.returns-in-Refused
-returns-in-Refused c = record { answer = rw c.answer-in-Refused.ensures (listed-refused _ _ _ _ _ _ _ _ _ (ran (goal.at.returns-in-Refused c).After-cur-1) _ _ _ (read (goal.at.returns-in-Refused c).After-step_fast _ c.in-Refused.is)).0; table = rw c.answer-in-Refused.ensures (listed-refused _ _ _ _ _ _ _ _ _ (ran (goal.at.returns-in-Refused c).After-cur-1) _ _ _ (read (goal.at.returns-in-Refused c).After-step_fast _ c.in-Refused.is)).1 }
+returns-in-Refused c = record { answer = rw c.answer-in-Refused.ensures (listed-refused _ _ _ _ _ _ _ _ _ (ran (goal.at.returns-in-Refused c).After-cur-1) _ _ _ (read (goal.at.returns-in-Refused c).After-step_fast _ c.in-Refused.is)).0; table = (listed-refused _ _ _ _ _ _ _ _ _ (ran (goal.at.returns-in-Refused c).After-cur-1) _ _ _ (read (goal.at.returns-in-Refused c).After-step_fast _ c.in-Refused.is)).1 }
 
 pub shape_of-rows-in-Done : goal.shape_of-rows-in-Done
 shape_of-rows-in-Done c = listed-length _ _ _ _ _ _ _ _ _ (ran (goal.at.shape_of-rows-in-Done c).After-cur-1)
 
 pub returns-in-Done : goal.returns-in-Done
-returns-in-Done c = record { answer = rw c.answer-in-Done.ensures (listed-done _ _ _ _ _ _ _ _ _ (ran (goal.at.returns-in-Done c).After-cur-1) _ (read (goal.at.returns-in-Done c).After-step_fast _ c.in-Done.is)).0; table = rw c.answer-in-Done.ensures (listed-done _ _ _ _ _ _ _ _ _ (ran (goal.at.returns-in-Done c).After-cur-1) _ (read (goal.at.returns-in-Done c).After-step_fast _ c.in-Done.is)).1 }
+returns-in-Done c = record { answer = rw c.answer-in-Done.ensures (listed-done _ _ _ _ _ _ _ _ _ (ran (goal.at.returns-in-Done c).After-cur-1) _ (read (goal.at.returns-in-Done c).After-step_fast _ c.in-Done.is)).0; table = (listed-done _ _ _ _ _ _ _ _ _ (ran (goal.at.returns-in-Done c).After-cur-1) _ (read (goal.at.returns-in-Done c).After-step_fast _ c.in-Done.is)).1 }
