@@ -62,7 +62,7 @@ parse_scope-requires t c =
     let g = rw c.in-Scope.is at c.take_item.ensures in
     let a = c.requires in
     let same = c.take_item.auto.rows ∙ (past-vars t (goal.at.parse_scope-requires t c).After-take_vars-vars).0 in
-    (?, (omega (arith, g.1.0), a.1, omega (arith, same, a.2), omega (arith, a.3)))
+    (omega (arith, g.0, c.decreases), (omega (arith, g.1.0), a.1, omega (arith, same, a.2), omega (arith, a.3)))
 
 pub loop-d-smaller : goal.loop-d-smaller
 loop-d-smaller t c =

@@ -78,12 +78,9 @@ returns-in-Refused-parse_scope c =
     let i = l.invariant in
     let g = rw c.in-Scope.is at c.take_item.ensures in
     let f = rw c.in-Refused-parse_scope.is at c.parse_scope.ensures in
-    record {
-      answer = rw c.answer.ensures (settled a.rows.now (header_of a.input.now a.c a.rows.now) l.header _ _ _ _
-          (i.4 ∙ g.1.2 [] l.header (refl, refl) ∙ f.1 [] l.header refl) (omega (arith, f.0, i.1))).0;
-      table = rw c.answer.ensures (settled a.rows.now (header_of a.input.now a.c a.rows.now) l.header _ _ _ _
-          (i.4 ∙ g.1.2 [] l.header (refl, refl) ∙ f.1 [] l.header refl) (omega (arith, f.0, i.1))).1;
-    }
+    let s = settled a.rows.now (header_of a.input.now a.c a.rows.now) l.header _ _ _ _
+        (i.4 ∙ g.1.2 [] l.header (refl, refl) ∙ f.1 [] l.header refl) (omega (arith, f.0, i.1)) in
+    record { answer = c.answer.ensures ∙ s.0; table = s.1 }
 
 pub loop-d-smaller : goal.loop-d-smaller
 loop-d-smaller c =
@@ -106,7 +103,8 @@ returns-in-Ends c =
     let i = l.invariant in
     let g = rw c.in-Other.is at c.take_item.ensures in
     let kept = rw c.in-Ends.is at (keep-here a.input.now c.capacity-cap.result l.cur c.in-Other.d l.rows l.n l.header c.in-Other.k g.1 g.2 c.keep.result c.keep.ensures) in
-    record { answer = ?; table = ? }
+    let s = settled a.rows.now (header_of a.input.now a.c a.rows.now) l.header _ _ _ _ (i.4 ∙ kept) (omega (arith, i.2, i.1)) in
+    record { answer = c.answer-in-Ends.ensures ∙ s.0; table = rw g.0 s.1 }
 
 pub returns-in-Refused : goal.returns-in-Refused
 returns-in-Refused c =
@@ -114,4 +112,5 @@ returns-in-Refused c =
     let a = c.args in
     let i = l.invariant in
     let g = rw c.in-Refused.is at c.take_item.ensures in
-    record { answer = rw c.answer-in-Refused.ensures (settled a.rows.now (header_of a.input.now a.c a.rows.now) l.header _ _ _ _ (i.4 ∙ g [] l.header (refl, refl)) (omega (arith, i.2, i.1))).0; table = rw c.answer-in-Refused.ensures (settled a.rows.now (header_of a.input.now a.c a.rows.now) l.header _ _ _ _ (i.4 ∙ g [] l.header (refl, refl)) (omega (arith, i.2, i.1))).1 }
+    let s = settled a.rows.now (header_of a.input.now a.c a.rows.now) l.header _ _ _ _ (i.4 ∙ g [] l.header (refl, refl)) (omega (arith, i.2, i.1)) in
+    record { answer = c.answer-in-Refused.ensures ∙ s.0; table = s.1 }

@@ -62,10 +62,6 @@ returns-then-cap-n c = record { answer = rw c.full.ensures (listed-full _ _ _ _ 
 pub put_change-requires : goal.put_change-requires
 put_change-requires c = omega (arith, listed-length _ _ _ _ _ _ _ _ _ (ran (goal.at.put_change-requires c).After-cur-1), c.if-cap-n.false)
 
-pub overflow_add-n : goal.overflow_add-n
-overflow_add-n c =
-    ?
-
 pub loop-d-smaller-in-Change : goal.loop-d-smaller-in-Change
 loop-d-smaller-in-Change c =
     omega (
