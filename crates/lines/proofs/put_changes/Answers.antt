@@ -19,7 +19,11 @@ loop-next-preserved c =
     )
 
 pub overflow_add-count : goal.overflow_add-count
-overflow_add-count c = omega (arith, (loop-again c).0.within, (loop-again c).1)
+overflow_add-count c =
+    let x = c.args in
+    let f = (going_more x.input.now x.name.now x.width x.changes.now x.from x.to x.out.now _ _ _
+    c.loop-next.invariant.0 c.loop-next-test.true c.change_at.ensures c.put_change.ensures _ c.in-Count.is).within in
+    ?
 
 pub returns-in-NoRoom : goal.returns-in-NoRoom
 returns-in-NoRoom c =

@@ -16,7 +16,11 @@ parse_scalar-requires-in-120 c = record { at_in_bounds = omega (arith, c.if-inpu
 
 pub parse_vector-requires : goal.parse_vector-requires
 parse_vector-requires c =
-    record { at_in_bounds = rw (take_rest c.args.input.now 0) (omega (arith, c.if-input-at.false), (c.requires.input_len_bound, vector-kind _ c.in-98.is)).0; input_len_bound = rw (take_rest c.args.input.now 0) (omega (arith, c.if-input-at.false), (c.requires.input_len_bound, vector-kind _ c.in-98.is)).1.0; at_value = rw (take_rest c.args.input.now 0) (omega (arith, c.if-input-at.false), (c.requires.input_len_bound, vector-kind _ c.in-98.is)).1.1 }
+    record {
+      at_in_bounds = rw (take_rest c.args.input.now 0) (omega (arith, c.if-input-at.false));
+      input_len_bound = rw (take_rest c.args.input.now 0) c.requires.input_len_bound;
+      at_value = rw (take_rest c.args.input.now 0) (vector-kind _ c.in-98.is);
+    }
 
 pub returns-in-35 : goal.returns-in-35
 returns-in-35 c = c.parse_timestamp.ensures.0

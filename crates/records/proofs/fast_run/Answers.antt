@@ -1,7 +1,6 @@
 -- Goals of `records::fast_run` that the search leaves.
 use Prim.Native.Nat.{ℕ, ◌+◌, ◌-◌, ◌≤◌, ◌<◌}
 use mathlib.Core.List.{List}
-use mathlib.Core.Logic.{⊎_elim}
 use native.Mathlib.Omega.{arith}
 use lib.ListN.{length}
 use Rattle.fast.specs.Fast.{Hits, Short}
@@ -11,7 +10,7 @@ use Rattle.records.proofs.Taken.{Runs, runs-start, runs-ran, runs-length, runs-r
 use borrow.Author.Rules.{rules}
 use Rattle.text.specs.Texts.{limit}
 use Rattle.records.proofs.fast_run.Goals as goal
-use Rattle.records.proofs.fast_run.Goals.{After-parse_short, In-Scalar, In-Time}
+use Rattle.records.proofs.fast_run.Goals.{After-parse_short, In-Scalar, In-Time, in-Scalar, in-Time}
 
 -- there is room for one more, and numbers stay small
 entered : (c : After-parse_short) → c.loop-at.at + 9 ≤ length c.loop-at.records
@@ -25,13 +24,13 @@ small : (c : After-parse_short) (e : ℕ) → e < length (input_of c)
 small c e h = omega (arith, c.loop-at.invariant.ran.valid)
 
 -- what a hit of the fast path says
-abbrev Hit : After-parse_short → Fast → Type 0
-Hit c b = let p = c.loop-at.cur.place in Hits (input_of c) p b × Short p b
+abbrev Hit : List ℕ → ℕ → Fast → Type 0
+Hit s p b = Hits s p b × Short p b
 
-time : (c : In-Time) → Hit c.before.before (Time c.in-Time.t c.in-Time.end)
+time : (c : In-Time) → Hit c.args.input.now c.loop-at.cur.place (Time c.in-Time.t c.in-Time.end)
 time c = rw c.in-Time.is at c.parse_short.ensures
 
-scalar : (c : In-Scalar) → Hit c.before.before (Scalar c.in-Scalar.i c.in-Scalar.end)
+scalar : (c : In-Scalar) → Hit c.args.input.now c.loop-at.cur.place (Scalar c.in-Scalar.i c.in-Scalar.end)
 scalar c = rw c.in-Scalar.is at c.parse_short.ensures
 
 pub loop-at-init : goal.loop-at-init
@@ -79,14 +78,15 @@ loop-at-smaller c = omega (arith, c.loop-at-test.true)
 pub loop-at-preserved : goal.loop-at-preserved
 loop-at-preserved c =
     let next = runs-next _ _ _ _ _ _ _ _ c.loop-at.invariant c.loop-at-test.true in
-    ⊎_elim
-    (λ w.
-    let q = time (record { before = record { before = (goal.at.loop-at-preserved c).After-parse_short; match = w.0 }; t = w.1 }) in
-    rw (w.11, w.9.ensures, w.10, w.6.ensures, w.5.ensures) (next _ _ q.0 q.1))
-    (λ w.
-    let q = scalar (record { before = record { before = (goal.at.loop-at-preserved c).After-parse_short; match = w.0 }; i = w.1 }) in
-    rw (w.13, w.11.ensures, w.12, w.8.ensures, w.7.ensures, w.5.ensures, q.0.means) (next _ _ q.0.change q.1))
-    c.match-parse_short.branch
+    (elim c.match-parse_short.branch [
+      in-Time w ↦
+        let q = rw w.in-Time.is at c.parse_short.ensures in
+        rw (w.cur-is, w.word_read-cur.ensures, w.records-is, w.put_at.ensures, w.timestamp_words.ensures) (next _ _ q.0 q.1)
+      | in-Scalar w ↦
+        let q = rw w.in-Scalar.is at c.parse_short.ensures in
+        rw (w.cur-is, w.word_read-cur-in-Scalar.ensures, w.records-is, w.put_at-in-Scalar.ensures, w.scalar_words.ensures, w.number_at-v.ensures, q.0.means)
+        (next _ _ q.0.change q.1)
+    ])
 
 pub shape_of-records : goal.shape_of-records
 shape_of-records c = runs-length _ _ _ _ _ _ _ _ c.loop-at.invariant

@@ -23,39 +23,39 @@ good : (c : Else-not-placed) →
     is_good a.input.now a.c ≡ true
 good c = sym c.placed.ensures ∙ c.if-not-placed.false
 
-abbrev input_of : After-fast_run-ran → List ℕ
-input_of c = c.args.input.now
-
-abbrev Comes : After-fast_run-ran → Cursor → ℕ → List ℕ → Type 0
-Comes c = let a = c.args in Ran (input_of c) a.c 0 a.records.now
-
-come : (c : After-fast_run-ran) → Comes c c.fast_run-ran.result.cursor c.fast_run-ran.result.count c.fast_run-ran.new.1.1.0
+come : (c : After-fast_run-ran) →
+    let a = c.args in
+    let r = c.fast_run-ran.result in
+    Ran a.input.now a.c 0 a.records.now r.cursor r.count c.fast_run-ran.new.records
 come c = ran-join _ _ _ _ _ _ _ c.loop-n.invariant _ _ _ c.fast_run-ran.ensures
 
-abbrev run_of : After-step_fast → After-fast_run-ran
-run_of c = c.before.before.before.before.before.before
-
 abbrev Told : After-step_fast → Step → Type 0
-Told c q = let s = input_of (run_of c) in let d = (run_of c).fast-run.result.cursor in Stepped (next_from s d) (as_slow s d q)
+Told c q = let s = c.args.input.now in let d = c.fast_run-ran.result.cursor in Stepped (next_from s d) (as_slow s d q)
 
 step : (c : After-step_fast) (q : Step) → c.step_fast.result ≡ q → Told c q
 step c q e = told _ _ _ _ q c.step_fast.ensures.0 e
 
-inside : (c : In-Hit) → c.in-Hit.end < length (input_of (run_of c.before.before.before.before))
+inside : (c : In-Hit) → c.in-Hit.end < length c.args.input.now
 inside c = rw c.in-Hit.is at c.step_fast.ensures.1
 
 -- a command was read: less is left, and one more is made
 less : (c : After-step_fast) (d : Cursor) → Told c (Step.Read d) →
-    let s = input_of (run_of c) in
-    length s - d.place < length s - (run_of c).before.before.loop.cur.place
-less c d q = omega (arith, less-left _ _ _ _ q.1, (run_of c).fast-run.ensures.past)
+    let s = c.args.input.now in
+    length s - d.place < length s - c.loop-n.cur.place
+less c d q = omega (arith, less-left _ _ _ _ q.1, c.fast_run-ran.ensures.past)
 
-more : (c : After-step_fast) (d : Cursor) → Told c (Step.Read d)
-    → Comes (run_of c) d ((run_of c).fast-run.result.count + 1) c.step_fast.new.1.1.0
-more c d q = ran-read _ _ _ _ _ _ (come (run_of c)) d q _ c.step_fast.ensures.2 c.if-cap-n.false
+more : (c : After-step_fast) (d : Cursor) → Told c (Step.Read d) →
+    let a = c.args in
+    Ran a.input.now a.c 0 a.records.now d (c.fast_run-ran.result.count + 1) c.step_fast.new.records
+more c d q =
+    ran-read _ _ _ _ _ _ (ran-join _ _ _ _ _ _ _ c.loop-n.invariant _ _ _ c.fast_run-ran.ensures) d q _ c.step_fast.ensures.2 c.if-cap-n.false
 
 pub returns-then-not-placed : goal.returns-then-not-placed
-returns-then-not-placed c = record { answer = rw c.answer.ensures (read-bad _ _ _ (sym c.placed.ensures ∙ c.if-not-placed.true)).0; table = rw c.answer.ensures (read-bad _ _ _ (sym c.placed.ensures ∙ c.if-not-placed.true)).1 }
+returns-then-not-placed c =
+    record {
+      answer = rw c.answer.ensures (read-bad _ _ _ (sym c.placed.ensures ∙ c.if-not-placed.true)).0;
+      table = (read-bad _ _ _ (sym c.placed.ensures ∙ c.if-not-placed.true)).1;
+    }
 
 pub loop-n-init : goal.loop-n-init
 loop-n-init c = ran-start _ _ _ _ (good-valid _ _ (good (goal.at.loop-n-init c).Else-not-placed)) (omega arith)
@@ -68,7 +68,12 @@ shape_of-records-then-cap-n c = ran-length _ _ _ _ _ _ _ (come (goal.at.shape_of
 
 pub returns-then-cap-n : goal.returns-then-cap-n
 returns-then-cap-n c =
-    record { answer = rw c.answer-then-cap-n.ensures (ran-full _ _ _ _ _ _ (come (goal.at.returns-then-cap-n c).After-fast_run-ran) (good (goal.at.returns-then-cap-n c).Else-not-placed) (omega (arith, c.if-cap-n.true))).0; table = rw c.answer-then-cap-n.ensures (ran-full _ _ _ _ _ _ (come (goal.at.returns-then-cap-n c).After-fast_run-ran) (good (goal.at.returns-then-cap-n c).Else-not-placed) (omega (arith, c.if-cap-n.true))).1 }
+    let l = come (goal.at.returns-then-cap-n c).After-fast_run-ran in
+    let g = good (goal.at.returns-then-cap-n c).Else-not-placed in
+    record {
+      answer = rw c.answer-then-cap-n.ensures (ran-full _ _ _ _ _ _ l g (omega (arith, c.if-cap-n.true))).0;
+      table = (ran-full _ _ _ _ _ _ l g (omega (arith, c.if-cap-n.true))).1;
+    }
 
 pub step_fast-requires : goal.step_fast-requires
 step_fast-requires c =
@@ -97,9 +102,15 @@ pub loop-n-preserved : goal.loop-n-preserved
 loop-n-preserved c = more (goal.at.loop-n-preserved c).After-step_fast _ (step (goal.at.loop-n-preserved c).After-step_fast _ c.in-Read.is)
 
 pub shape_of-records-in-Ends : goal.shape_of-records-in-Ends
-shape_of-records-in-Ends c = c.step_fast.auto.records ∙ ran-length _ _ _ _ _ _ _ (come (run_of (goal.at.shape_of-records-in-Ends c).After-step_fast))
+shape_of-records-in-Ends c =
+    c.step_fast.auto.records ∙ ran-length _ _ _ _ _ _ _ (come (goal.at.shape_of-records-in-Ends c).After-fast_run-ran)
 
 pub returns-in-Ends : goal.returns-in-Ends
 returns-in-Ends c =
-    let r = run_of (goal.at.returns-in-Ends c).After-step_fast in
-    record { answer = rw (c.answer-in-Ends.ensures, c.step_fast.ensures.2) (ran-last _ _ _ _ _ _ (come r) (good r.before.before.before) _ _ (step (goal.at.returns-in-Ends c).After-step_fast _ c.in-Ends.is) c.if-cap-n.false).0; table = rw (c.answer-in-Ends.ensures, c.step_fast.ensures.2) (ran-last _ _ _ _ _ _ (come r) (good r.before.before.before) _ _ (step (goal.at.returns-in-Ends c).After-step_fast _ c.in-Ends.is) c.if-cap-n.false).1 }
+    let l = come (goal.at.returns-in-Ends c).After-fast_run-ran in
+    let g = good (goal.at.returns-in-Ends c).Else-not-placed in
+    let q = step (goal.at.returns-in-Ends c).After-step_fast _ c.in-Ends.is in
+    record {
+      answer = rw c.answer-in-Ends.ensures (ran-last _ _ _ _ _ _ l g _ _ q c.if-cap-n.false).0;
+      table = rw c.step_fast.ensures.2 (ran-last _ _ _ _ _ _ l g _ _ q c.if-cap-n.false).1;
+    }

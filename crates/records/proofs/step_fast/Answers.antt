@@ -25,7 +25,7 @@ pub overflow_sub-len : goal.overflow_sub-len
 overflow_sub-len c = omega (arith, (vector (goal.at.overflow_sub-len c).In-Vector).some)
 
 pub step_var-requires : goal.step_var-requires
-step_var-requires c = record { valid = rw (take_rest c.args.input.now 0, c.again.ensures) (c.requires).0; n_in_bounds = rw (take_rest c.args.input.now 0, c.again.ensures) (c.requires).1 }
+step_var-requires c = record { valid = rw (take_rest c.args.input.now 0, c.again.ensures) c.requires.valid; n_in_bounds = c.requires.n_in_bounds }
 
 pub returns-in-Time : goal.returns-in-Time
 returns-in-Time c = hit-step _ _ c.requires.valid _ _ (time (goal.at.returns-in-Time c).In-Time) _ _ _ (rw c.timestamp_words.ensures at c.put.ensures)

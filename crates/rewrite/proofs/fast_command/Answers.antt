@@ -15,8 +15,11 @@ pub parse_scalar-requires-in-120 : goal.parse_scalar-requires-in-120
 parse_scalar-requires-in-120 c = record { at_in_bounds = omega (arith, c.if-input-at.false); input_len_bound = c.requires.input_len_bound; at_value = letter-value _ c.in-120.is }
 
 pub parse_vector-requires : goal.parse_vector-requires
-parse_vector-requires c =
-    record { at_in_bounds = rw (take_rest c.args.input.now 0) (omega (arith, c.if-input-at.false), (c.requires.input_len_bound, vector-kind _ c.in-98.is)).0; input_len_bound = rw (take_rest c.args.input.now 0) (omega (arith, c.if-input-at.false), (c.requires.input_len_bound, vector-kind _ c.in-98.is)).1.0; at_value = rw (take_rest c.args.input.now 0) (omega (arith, c.if-input-at.false), (c.requires.input_len_bound, vector-kind _ c.in-98.is)).1.1 }
+parse_vector-requires c = record {
+  at_in_bounds = rw (take_rest c.args.input.now 0) (omega (arith, c.if-input-at.false));
+  input_len_bound = rw (take_rest c.args.input.now 0) c.requires.input_len_bound;
+  at_value = rw (take_rest c.args.input.now 0) (vector-kind _ c.in-98.is);
+}
 
 pub returns-in-98 : goal.returns-in-98
 returns-in-98 c = rw (take_rest c.args.input.now 0) at c.parse_vector.ensures

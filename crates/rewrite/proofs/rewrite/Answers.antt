@@ -16,7 +16,7 @@ inside : (c : In-Hit) → c.in-Hit.end < length c.args.input.now
 inside c = rw c.in-Hit.is at c.step_fast.ensures.1
 
 pub returns-then-not-placed : goal.returns-then-not-placed
-returns-then-not-placed c = record { answer = rw c.answer.ensures (stops-before _ _ _ _ (sym c.placed.ensures ∙ c.if-not-placed.true)).0; bytes = rw c.answer.ensures (stops-before _ _ _ _ (sym c.placed.ensures ∙ c.if-not-placed.true)).1 }
+returns-then-not-placed c = record { answer = rw c.answer.ensures (stops-before _ _ _ _ (sym c.placed.ensures ∙ c.if-not-placed.true)).0; bytes = (stops-before c.args.input.now c.args.out.now c.args.c c.args.w (sym c.placed.ensures ∙ c.if-not-placed.true)).1 }
 
 pub loop-end-init : goal.loop-end-init
 loop-end-init c = writes-none _ _ _ _ (good-valid _ _ (sym c.placed.ensures ∙ c.if-not-placed.false))
@@ -61,4 +61,4 @@ pub shape_of-out-in-Ends : goal.shape_of-out-in-Ends
 shape_of-out-in-Ends c = stops-length _ _ _ _ _ _ _ _ c.loop-end.invariant _ _ _ refl c.step_fast.ensures c.in-Ends.is
 
 pub returns-in-Ends : goal.returns-in-Ends
-returns-in-Ends c = record { answer = rw c.answer-in-Ends.ensures (stops _ _ _ _ _ _ _ _ c.loop-end.invariant _ _ _ refl c.step_fast.ensures c.in-Ends.is).0; bytes = rw c.answer-in-Ends.ensures (stops _ _ _ _ _ _ _ _ c.loop-end.invariant _ _ _ refl c.step_fast.ensures c.in-Ends.is).1 }
+returns-in-Ends c = record { answer = rw c.answer-in-Ends.ensures (stops _ _ _ _ _ _ _ _ c.loop-end.invariant _ _ _ refl c.step_fast.ensures c.in-Ends.is).0; bytes = (stops _ _ _ _ _ _ _ _ c.loop-end.invariant _ _ _ refl c.step_fast.ensures c.in-Ends.is).1 }

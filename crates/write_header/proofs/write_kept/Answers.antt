@@ -24,7 +24,7 @@ returns-in-Through-write_version c =
     let x = rw c.in-Through.is at c.write_date.ensures in
     let y = rw c.in-Through-write_version.is at c.write_version.ensures in
     let r = c.write_timescale.result in
-    let left = c.write_timescale.new.1.1.1.0 in
+    let left = c.write_timescale.new.out in
     then-writes a.out.now 0 a.w _ _ _ (remark_of date s a.h.date) (remark_of version s a.h.version ++ timescale_of a.h.timescale) x.2 0 r left
     (then-writes _ _ _ _ _ _ (remark_of version s a.h.version) (timescale_of a.h.timescale) y.2 0 r left c.write_timescale.ensures)
 

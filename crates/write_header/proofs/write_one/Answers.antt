@@ -9,7 +9,7 @@ pub overflow_add-result : goal.overflow_add-result
 overflow_add-result c =
     let a = c.args in
     let x = rw c.in-Bytes.is at (told a.out.now a.at a.w a.src.now a.k c.requires.1 c.requires.0 refl c.command.ensures) in
-    omega (arith, x.0, c.well-formed.1.1.1.1.0)
+    omega (arith, x.0, c.well_formed.1.1.1.1.0)
 
 pub returns-in-Bytes : goal.returns-in-Bytes
 returns-in-Bytes c =

@@ -20,14 +20,14 @@ pub returns-in-Through-write_one : goal.returns-in-Through-write_one
 returns-in-Through-write_one c =
     let a = c.args in
     end_whole a.src.now a.rows.now a.n a.out.now a.at a.w c.requires.2
-    c.in-Through.field-0 c.in-Through.past c.in-Through.v c.write_scope.new.1.1.1.1.1.0
+    c.in-Through.field-0 c.in-Through.past c.in-Through.v c.write_scope.new.out
     (rw c.in-Through.is at c.write_scope.ensures) (rw c.in-Through-write_one.is at c.write_one.ensures)
 
 pub returns-in-Refused-write_one : goal.returns-in-Refused-write_one
 returns-in-Refused-write_one c =
     let a = c.args in
     end-stop a.src.now a.rows.now a.n a.out.now a.at a.w c.requires.2
-    c.in-Through.field-0 c.in-Through.past c.in-Through.v c.write_scope.new.1.1.1.1.1.0
+    c.in-Through.field-0 c.in-Through.past c.in-Through.v c.write_scope.new.out
     (rw c.in-Through.is at c.write_scope.ensures) (rw c.in-Refused-write_one.is at c.write_one.ensures)
 
 pub returns-in-Refused : goal.returns-in-Refused

@@ -15,7 +15,7 @@ overflow_add-result c =
     let a = c.args in
     let x = rw c.in-Bytes.is at
     (told a.out.now a.at a.w a.src.now (it a.v) c.requires.1 c.requires.0 refl c.var.ensures) in
-    omega (arith, x.0, c.well-formed.1.1.1.1.0)
+    omega (arith, x.0, c.well_formed.1.1.1.1.0)
 
 pub returns-in-Bytes : goal.returns-in-Bytes
 returns-in-Bytes c =
