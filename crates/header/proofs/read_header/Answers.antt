@@ -79,7 +79,7 @@ returns-in-Refused-parse_scope c =
     let g = rw c.in-Scope.is at c.take_item.ensures in
     let f = rw c.in-Refused-parse_scope.is at c.parse_scope.ensures in
     let s = settled a.rows.now (header_of a.input.now a.c a.rows.now) l.header _ _ _ _
-        (i.4 ∙ g.1.2 [] l.header (refl, refl) ∙ f.1 [] l.header refl) (omega (arith, f.0, i.1)) in
+    (i.4 ∙ g.1.2 [] l.header (refl, refl) ∙ f.1 [] l.header refl) (omega (arith, f.0, i.1)) in
     record { answer = c.answer.ensures ∙ s.0; table = s.1 }
 
 pub loop-d-smaller : goal.loop-d-smaller
