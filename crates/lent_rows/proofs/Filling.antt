@@ -9,7 +9,7 @@ use lib.ListN.{length, set, drop}
 use Rattle.rows.specs.Rows.{row_at, rows_from}
 use Rattle.lent_rows.specs.declared.HeaderRow.{HeaderRow}
 use Rattle.lent_rows.specs.Rows.{struct_of, structs, fill_rows}
-use Rattle.lent_rows.proofs.Counting.{below}
+use Rattle.std.proofs.lemmas.Bool.{cases_lt}
 
 module _ (ws : List ℕ) where
   pub none : (old : List HeaderRow) → fill_rows 0 0 ws old ≡ old
@@ -40,7 +40,7 @@ module _ (ws : List ℕ) where
   as_many n m old e = ⊎_elim
       (λ (h : n < length old). let is : m ≡ n = omega arith in ap (λ (k : ℕ). fill_rows 0 k ws old) is)
       (λ (h : length old ≤ n). let is : m ≡ length old = omega arith in ap (λ (k : ℕ). fill_rows 0 k ws old) is ∙ past 0 n old h)
-      (below n (length old))
+      (cases_lt n (length old))
 
   pub filled-rows : (i n : ℕ) (old : List HeaderRow) → n ≤ length old → fill_rows i n ws old ≡ structs (rows_from ws i n) ++ drop n old
   unfolding fill_rows structs rows_from

@@ -1,4 +1,2 @@
-mod Counting
-pub mod Local
 mod Filling
 pub mod Flat

@@ -3,6 +3,7 @@ use Prim.Native.Nat.{◌-◌}
 use mathlib.Core.Path.{◌≡◌, refl}
 use native.Mathlib.Omega.{arith}
 use borrow.Author.Rules.{rules}
+use borrow.Rule.Slice.PartMut.{put_mid}
 use lib.ListN.{length}
 use Rattle.lines.proofs.Printing.{Going, going_start, going_end, going-full, going_more}
 use Rattle.lines.proofs.put_changes.Goals as goal
@@ -23,7 +24,8 @@ overflow_add-count c =
     let x = c.args in
     let f = (going_more x.input.now x.name.now x.width x.changes.now x.from x.to x.out.now _ _ _
     c.loop-next.invariant.0 c.loop-next-test.true c.change_at.ensures c.put_change.ensures _ c.in-Count.is).within in
-    ?
+    let k : length (put_mid c.loop-next.count (length c.loop-next.out - c.loop-next.count) c.loop-next.out c.put_change.new.out) ≡ length x.out.now = search rules in
+    omega (arith, f, k)
 
 pub returns-in-NoRoom : goal.returns-in-NoRoom
 returns-in-NoRoom c =

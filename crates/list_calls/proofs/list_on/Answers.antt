@@ -14,54 +14,34 @@ put_since-requires c = since-two _ c.since_in.ensures c.in-Is-since_in.is
 
 pub returns-in-Bad : goal.returns-in-Bad
 unfolding list_on_call
-returns-in-Bad c = record { status = rw (sym c.cursor_of.ensures ∙ c.in-Bad.is) (refl, (refl, (refl, (refl, refl)))).0; cursor = rw (sym c.cursor_of.ensures ∙ c.in-Bad.is) (refl, (refl, (refl, (refl, refl)))).1.0; since = rw (sym c.cursor_of.ensures ∙ c.in-Bad.is) (refl, (refl, (refl, (refl, refl)))).1.1.0; rows = rw (sym c.cursor_of.ensures ∙ c.in-Bad.is) (refl, (refl, (refl, (refl, refl)))).1.1.1.0; count = rw (sym c.cursor_of.ensures ∙ c.in-Bad.is) (refl, (refl, (refl, (refl, refl)))).1.1.1.1 }
+returns-in-Bad c =
+    record {
+      status = rw (sym c.cursor_of.ensures ∙ c.in-Bad.is);
+      cursor = rw (sym c.cursor_of.ensures ∙ c.in-Bad.is);
+      since = rw (sym c.cursor_of.ensures ∙ c.in-Bad.is);
+      rows = rw (sym c.cursor_of.ensures ∙ c.in-Bad.is);
+      count = rw (sym c.cursor_of.ensures ∙ c.in-Bad.is);
+    }
 
 pub returns-in-Bad-since_in : goal.returns-in-Bad-since_in
 unfolding list_on_call
-returns-in-Bad-since_in c = record { status = rw (sym c.cursor_of.ensures ∙ c.in-Is.is, sym c.since_in.ensures ∙ c.in-Bad-since_in.is) (refl, (refl, (refl, (refl, refl)))).0; cursor = rw (sym c.cursor_of.ensures ∙ c.in-Is.is, sym c.since_in.ensures ∙ c.in-Bad-since_in.is) (refl, (refl, (refl, (refl, refl)))).1.0; since = rw (sym c.cursor_of.ensures ∙ c.in-Is.is, sym c.since_in.ensures ∙ c.in-Bad-since_in.is) (refl, (refl, (refl, (refl, refl)))).1.1.0; rows = rw (sym c.cursor_of.ensures ∙ c.in-Is.is, sym c.since_in.ensures ∙ c.in-Bad-since_in.is) (refl, (refl, (refl, (refl, refl)))).1.1.1.0; count = rw (sym c.cursor_of.ensures ∙ c.in-Is.is, sym c.since_in.ensures ∙ c.in-Bad-since_in.is) (refl, (refl, (refl, (refl, refl)))).1.1.1.1 }
+returns-in-Bad-since_in c =
+    record {
+      status = rw (sym c.cursor_of.ensures ∙ c.in-Is.is, sym c.since_in.ensures ∙ c.in-Bad-since_in.is);
+      cursor = rw (sym c.cursor_of.ensures ∙ c.in-Is.is, sym c.since_in.ensures ∙ c.in-Bad-since_in.is);
+      since = rw (sym c.cursor_of.ensures ∙ c.in-Is.is, sym c.since_in.ensures ∙ c.in-Bad-since_in.is);
+      rows = rw (sym c.cursor_of.ensures ∙ c.in-Is.is, sym c.since_in.ensures ∙ c.in-Bad-since_in.is);
+      count = rw (sym c.cursor_of.ensures ∙ c.in-Is.is, sym c.since_in.ensures ∙ c.in-Bad-since_in.is);
+    }
 
 pub returns-in-Is-since_in : goal.returns-in-Is-since_in
 unfolding list_on_call
 returns-in-Is-since_in c =
+    let a = c.list_on-a.ensures in
     record {
-      status = rw (
-        sym c.cursor_of.ensures ∙ c.in-Is.is,
-        sym c.since_in.ensures ∙ c.in-Is-since_in.is,
-        c.status.ensures,
-        c.put_cursor.ensures,
-        c.put_since.ensures,
-        c.list_on-a.ensures.answer,
-      ) (refl, (refl, (refl, (c.list_on-a.ensures.table, refl)))).0;
-      cursor = rw (
-        sym c.cursor_of.ensures ∙ c.in-Is.is,
-        sym c.since_in.ensures ∙ c.in-Is-since_in.is,
-        c.status.ensures,
-        c.put_cursor.ensures,
-        c.put_since.ensures,
-        c.list_on-a.ensures.answer,
-      ) (refl, (refl, (refl, (c.list_on-a.ensures.table, refl)))).1.0;
-      since = rw (
-        sym c.cursor_of.ensures ∙ c.in-Is.is,
-        sym c.since_in.ensures ∙ c.in-Is-since_in.is,
-        c.status.ensures,
-        c.put_cursor.ensures,
-        c.put_since.ensures,
-        c.list_on-a.ensures.answer,
-      ) (refl, (refl, (refl, (c.list_on-a.ensures.table, refl)))).1.1.0;
-      rows = rw (
-        sym c.cursor_of.ensures ∙ c.in-Is.is,
-        sym c.since_in.ensures ∙ c.in-Is-since_in.is,
-        c.status.ensures,
-        c.put_cursor.ensures,
-        c.put_since.ensures,
-        c.list_on-a.ensures.answer,
-      ) (refl, (refl, (refl, (c.list_on-a.ensures.table, refl)))).1.1.1.0;
-      count = rw (
-        sym c.cursor_of.ensures ∙ c.in-Is.is,
-        sym c.since_in.ensures ∙ c.in-Is-since_in.is,
-        c.status.ensures,
-        c.put_cursor.ensures,
-        c.put_since.ensures,
-        c.list_on-a.ensures.answer,
-      ) (refl, (refl, (refl, (c.list_on-a.ensures.table, refl)))).1.1.1.1;
+      status = rw (sym c.cursor_of.ensures ∙ c.in-Is.is, sym c.since_in.ensures ∙ c.in-Is-since_in.is, c.status.ensures, a.answer);
+      cursor = rw (sym c.cursor_of.ensures ∙ c.in-Is.is, sym c.since_in.ensures ∙ c.in-Is-since_in.is, c.put_cursor.ensures, a.answer);
+      since = rw (sym c.cursor_of.ensures ∙ c.in-Is.is, sym c.since_in.ensures ∙ c.in-Is-since_in.is, c.put_since.ensures, a.answer);
+      rows = rw (sym c.cursor_of.ensures ∙ c.in-Is.is, sym c.since_in.ensures ∙ c.in-Is-since_in.is) a.table;
+      count = rw (sym c.cursor_of.ensures ∙ c.in-Is.is, sym c.since_in.ensures ∙ c.in-Is-since_in.is, a.answer);
     }

@@ -12,11 +12,11 @@ pub returns-in-Whole : goal.returns-in-Whole
 returns-in-Whole c =
     let x = c.args in
     let h = c.read_header-h in
-    begin-whole x.input.now x.rows.now x.out.now c.if-input-gt-TAKEN.false c.start.ensures h.ensures.0 h.ensures.1 c.in-Whole.is
+    begin-whole x.input.now x.rows.now x.out.now c.if-input-gt-TAKEN.false c.start.ensures h.ensures.answer h.ensures.table c.in-Whole.is
 
 pub returns-in-Refused : goal.returns-in-Refused
 returns-in-Refused c =
     let x = c.args in
     let h = c.read_header-h in
-    begin-refused x.input.now x.rows.now x.out.now c.if-input-gt-TAKEN.false c.start.ensures h.ensures.0 h.ensures.1
+    begin-refused x.input.now x.rows.now x.out.now c.if-input-gt-TAKEN.false c.start.ensures h.ensures.answer h.ensures.table
     c.in-Refused.is c.put_met.ensures c.last-in-Refused.ensures

@@ -7,13 +7,13 @@ pub returns-then-after-next : goal.returns-then-after-next
 returns-then-after-next c =
     let x = c.args in
     let e = c.put_changes-n.ensures in
-    lines-stop x.input.now x.changes.now x.out.now x.p x.l c.part.ensures c.if-next-count.true e.0 e.1 c.if-after-next.true c.last.ensures
+    lines-stop x.input.now x.changes.now x.out.now x.p x.l c.part.ensures c.if-next-count.true e.answer e.bytes c.if-after-next.true c.last.ensures
 
 pub returns-then-next-count : goal.returns-then-next-count
 returns-then-next-count c =
     let x = c.args in
     let e = c.put_changes-n.ensures in
-    lines-some x.input.now x.changes.now x.out.now x.p x.l c.part.ensures c.if-next-count.true e.0 e.1 c.if-after-next.false
+    lines-some x.input.now x.changes.now x.out.now x.p x.l c.part.ensures c.if-next-count.true e.answer e.bytes c.if-after-next.false
 
 pub returns : goal.returns
 returns c =

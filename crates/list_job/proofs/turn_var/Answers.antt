@@ -7,4 +7,4 @@ pub returns : goal.returns
 returns c =
     let x = c.args in
     let a = c.list-a.ensures in
-    var-listed x.input.now x.changes.now x.p x.v a.0 a.1
+    var-listed x.input.now x.changes.now x.p x.v a.answer a.table
