@@ -1,5 +1,5 @@
-// The library for C and Rust: its fifteen calls, each that of `read_calls`, `list_calls` or `write_calls`, over numbers and lent arrays
-// alone.
+// The library's fifteen calls, each that of `read_calls`, `list_calls` or `write_calls`, over numbers and lent arrays alone. `vcd_c`
+// exports them.
 #![tactic(auto)]
 
 ghost use Rattle.std.specs.Prelude.{◌≡◌};
@@ -33,8 +33,7 @@ ghost use Rattle.write_calls.specs.Writing.{
 };
 
 // Reads the next command into a record of nine words.
-#[unsafe(no_mangle)]
-pub extern "C" fn vcd_next(input: &[u8], cursor: &mut [u64], words: &mut [u64]) -> u64
+pub fn vcd_next(input: &[u8], cursor: &mut [u64], words: &mut [u64]) -> u64
     ensures status { result ≡ (next_call input.now cursor.old words.old).status }
     ensures cursor { cursor.new ≡ (next_call input.now cursor.old words.old).cursor }
     ensures words { words.new ≡ (next_call input.now cursor.old words.old).table }
@@ -43,13 +42,7 @@ pub extern "C" fn vcd_next(input: &[u8], cursor: &mut [u64], words: &mut [u64]) 
 }
 
 // Reads commands into records until they are full or reading ends, and counts them.
-#[unsafe(no_mangle)]
-pub extern "C" fn vcd_read(
-    input: &[u8],
-    cursor: &mut [u64],
-    records: &mut [u64],
-    count: &mut u64,
-) -> u64
+pub fn vcd_read(input: &[u8], cursor: &mut [u64], records: &mut [u64], count: &mut u64) -> u64
     ensures status { result ≡ (read_call input.now cursor.old records.old count.old).status }
     ensures cursor { cursor.new ≡ (read_call input.now cursor.old records.old count.old).cursor }
     ensures records { records.new ≡ (read_call input.now cursor.old records.old count.old).table }
@@ -59,13 +52,7 @@ pub extern "C" fn vcd_read(
 }
 
 // Reads a header into rows of ten words, and what it keeps into ten words.
-#[unsafe(no_mangle)]
-pub extern "C" fn vcd_header(
-    input: &[u8],
-    cursor: &mut [u64],
-    rows: &mut [u64],
-    head: &mut [u64],
-) -> u64
+pub fn vcd_header(input: &[u8], cursor: &mut [u64], rows: &mut [u64], head: &mut [u64]) -> u64
     ensures status { result ≡ (header_call_of input.now cursor.old rows.old head.old).status }
     ensures cursor { cursor.new ≡ (header_call_of input.now cursor.old rows.old head.old).cursor }
     ensures rows { rows.new ≡ (header_call_of input.now cursor.old rows.old head.old).rows }
@@ -75,8 +62,7 @@ pub extern "C" fn vcd_header(
 }
 
 // Copies row `i` of a header; BAD_PLACE where there is none, or where its words are no row.
-#[unsafe(no_mangle)]
-pub extern "C" fn vcd_row(rows: &[u64], i: usize, row: &mut [u64]) -> u64
+pub fn vcd_row(rows: &[u64], i: usize, row: &mut [u64]) -> u64
     ensures status { result ≡ row_status (is_row_call rows.now i row.old) }
     ensures row { row.new ≡ row_copied (is_row_call rows.now i row.old) 10 rows.now i row.old }
 {
@@ -84,14 +70,7 @@ pub extern "C" fn vcd_row(rows: &[u64], i: usize, row: &mut [u64]) -> u64
 }
 
 // The row of the scope at a path of names, parted by one space; NONE where there is none.
-#[unsafe(no_mangle)]
-pub extern "C" fn vcd_find_scope(
-    input: &[u8],
-    rows: &[u64],
-    count: usize,
-    path: &[u8],
-    row: &mut u64,
-) -> u64
+pub fn vcd_find_scope(input: &[u8], rows: &[u64], count: usize, path: &[u8], row: &mut u64) -> u64
     ensures status { result ≡ found_status (found_row input.now Kind.Scope rows.now count path.now) }
     ensures row { row.new ≡ found_after row.old (found_row input.now Kind.Scope rows.now count path.now) }
 {
@@ -99,14 +78,7 @@ pub extern "C" fn vcd_find_scope(
 }
 
 // The row of the variable at a path of names, parted by one space; NONE where there is none.
-#[unsafe(no_mangle)]
-pub extern "C" fn vcd_find_var(
-    input: &[u8],
-    rows: &[u64],
-    count: usize,
-    path: &[u8],
-    row: &mut u64,
-) -> u64
+pub fn vcd_find_var(input: &[u8], rows: &[u64], count: usize, path: &[u8], row: &mut u64) -> u64
     ensures status { result ≡ found_status (found_row input.now Kind.Var rows.now count path.now) }
     ensures row { row.new ≡ found_after row.old (found_row input.now Kind.Var rows.now count path.now) }
 {
@@ -114,8 +86,7 @@ pub extern "C" fn vcd_find_var(
 }
 
 // Writes the command of a record, whose texts stand in `src`, and counts its bytes.
-#[unsafe(no_mangle)]
-pub extern "C" fn vcd_command(
+pub fn vcd_command(
     writer: &mut [u64],
     src: &[u8],
     words: &[u64],
@@ -131,8 +102,7 @@ pub extern "C" fn vcd_command(
 }
 
 // Writes a header: what is kept and the rows that `head` counts.
-#[unsafe(no_mangle)]
-pub extern "C" fn vcd_write_header(
+pub fn vcd_write_header(
     writer: &mut [u64],
     src: &[u8],
     head: &[u64],
@@ -149,8 +119,7 @@ pub extern "C" fn vcd_write_header(
 }
 
 // Rewrites commands from the cursor on, as many as the output has room for; counts bytes, and stores the line of a refusal.
-#[unsafe(no_mangle)]
-pub extern "C" fn vcd_rewrite(
+pub fn vcd_rewrite(
     input: &[u8],
     cursor: &mut [u64],
     writer: &mut [u64],
@@ -169,8 +138,7 @@ pub extern "C" fn vcd_rewrite(
 }
 
 // Lists the changes of a code from the cursor on into rows of six words, and counts them.
-#[unsafe(no_mangle)]
-pub extern "C" fn vcd_list(
+pub fn vcd_list(
     input: &[u8],
     cursor: &mut [u64],
     code: u64,
@@ -186,8 +154,7 @@ pub extern "C" fn vcd_list(
 }
 
 // The same from where a listing stopped: `since` is the last time before the cursor, and afterwards the last one that was read.
-#[unsafe(no_mangle)]
-pub extern "C" fn vcd_list_on(
+pub fn vcd_list_on(
     input: &[u8],
     cursor: &mut [u64],
     since: &mut [u64],
@@ -205,8 +172,7 @@ pub extern "C" fn vcd_list_on(
 }
 
 // Copies row `i` of a listing; BAD_PLACE where there is none, or where its words are no row.
-#[unsafe(no_mangle)]
-pub extern "C" fn vcd_change(rows: &[u64], i: usize, change: &mut [u64]) -> u64
+pub fn vcd_change(rows: &[u64], i: usize, change: &mut [u64]) -> u64
     ensures status { result ≡ row_status (is_change_call rows.now i change.old) }
     ensures change { change.new ≡ row_copied (is_change_call rows.now i change.old) 6 rows.now i change.old }
 {
@@ -214,8 +180,7 @@ pub extern "C" fn vcd_change(rows: &[u64], i: usize, change: &mut [u64]) -> u64
 }
 
 // Writes a vector of the input in lower case at a width, and counts its bytes.
-#[unsafe(no_mangle)]
-pub extern "C" fn vcd_widen(
+pub fn vcd_widen(
     input: &[u8],
     start: usize,
     len: usize,
@@ -231,8 +196,7 @@ pub extern "C" fn vcd_widen(
 }
 
 // Writes the text of an id code, and counts its bytes.
-#[unsafe(no_mangle)]
-pub extern "C" fn vcd_id_text(code: u64, out: &mut [u8], count: &mut u64) -> u64
+pub fn vcd_id_text(code: u64, out: &mut [u8], count: &mut u64) -> u64
     ensures status { result ≡ id_status code out.old }
     ensures out { out.new ≡ id_bytes code out.old }
     ensures count { count.new ≡ id_count code out.old count.old }
@@ -241,8 +205,7 @@ pub extern "C" fn vcd_id_text(code: u64, out: &mut [u8], count: &mut u64) -> u64
 }
 
 // The code that a text means.
-#[unsafe(no_mangle)]
-pub extern "C" fn vcd_id_code(text: &[u8], code: &mut u64) -> u64
+pub fn vcd_id_code(text: &[u8], code: &mut u64) -> u64
     ensures status { result ≡ code_status (parse_id text.now) }
     ensures code { code.new ≡ code_after code.old (parse_id text.now) }
 {
