@@ -1,2 +1,3 @@
 mod Taken
 mod OneRead
+mod Clauses

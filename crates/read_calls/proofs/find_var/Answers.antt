@@ -3,4 +3,4 @@ use borrow.Author.Rules.{rules}
 use Rattle.read_calls.proofs.find_var.Goals as goal
 
 pub returns : goal.returns
-returns c = record { status = rw (← c.find_var.ensures) (c.found.ensures).0; row = rw (← c.find_var.ensures) (c.found.ensures).1 }
+returns c = rw (← c.find_var.ensures) (c.found.ensures)

@@ -4,10 +4,10 @@ use borrow.Author.Rules.{rules}
 use Rattle.read_calls.proofs.found.Goals as goal
 
 pub returns-in-At : goal.returns-in-At
-returns-in-At c = record { status = rw c.in-At.is (refl); row = rw c.in-At.is (refl) }
+returns-in-At c = rw c.in-At.is (record { status = refl; row = refl })
 
 pub returns-in-None : goal.returns-in-None
-returns-in-None c = record { status = rw c.in-None.is (refl); row = rw c.in-None.is (refl) }
+returns-in-None c = rw c.in-None.is (record { status = refl; row = refl })
 
 pub returns-in-Refused : goal.returns-in-Refused
-returns-in-Refused c = record { status = rw c.in-Refused.is (c.number.ensures); row = rw c.in-Refused.is (refl) }
+returns-in-Refused c = rw c.in-Refused.is (record { status = c.number.ensures; row = refl })

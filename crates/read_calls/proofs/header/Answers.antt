@@ -8,7 +8,7 @@ use Rattle.read_calls.proofs.header.Goals as goal
 
 pub returns-then-head-ne-HEAD : goal.returns-then-head-ne-HEAD
 unfolding header_call_of
-returns-then-head-ne-HEAD c = record { status = rw (ne_eqb _ _ c.if-head-ne-HEAD.true) (refl, (refl, (refl, refl))).0; cursor = rw (ne_eqb _ _ c.if-head-ne-HEAD.true) (refl, (refl, (refl, refl))).1.0; rows = rw (ne_eqb _ _ c.if-head-ne-HEAD.true) (refl, (refl, (refl, refl))).1.1.0; head = rw (ne_eqb _ _ c.if-head-ne-HEAD.true) (refl, (refl, (refl, refl))).1.1.1 }
+returns-then-head-ne-HEAD c = rw (ne_eqb _ _ c.if-head-ne-HEAD.true) (record { status = refl; cursor = refl; rows = refl; head = refl })
 
 pub put_cursor-requires : goal.put_cursor-requires
 put_cursor-requires c = cursor-four _ c.cursor_of.ensures c.in-Is.is
@@ -16,41 +16,15 @@ put_cursor-requires c = cursor-four _ c.cursor_of.ensures c.in-Is.is
 pub returns-in-Is : goal.returns-in-Is
 unfolding header_call_of
 returns-in-Is c =
-    record {
-      status = rw (
-        eq-eqb _ _ c.if-head-ne-HEAD.false,
-        sym c.cursor_of.ensures ∙ c.in-Is.is,
-        c.header_status.ensures,
-        c.put_head.ensures,
-        c.put_cursor.ensures,
-        c.read_header-a.ensures.answer,
-      ) (refl, (refl, (c.read_header-a.ensures.table, refl))).0;
-      cursor = rw (
-        eq-eqb _ _ c.if-head-ne-HEAD.false,
-        sym c.cursor_of.ensures ∙ c.in-Is.is,
-        c.header_status.ensures,
-        c.put_head.ensures,
-        c.put_cursor.ensures,
-        c.read_header-a.ensures.answer,
-      ) (refl, (refl, (c.read_header-a.ensures.table, refl))).1.0;
-      rows = rw (
-        eq-eqb _ _ c.if-head-ne-HEAD.false,
-        sym c.cursor_of.ensures ∙ c.in-Is.is,
-        c.header_status.ensures,
-        c.put_head.ensures,
-        c.put_cursor.ensures,
-        c.read_header-a.ensures.answer,
-      ) (refl, (refl, (c.read_header-a.ensures.table, refl))).1.1.0;
-      head = rw (
-        eq-eqb _ _ c.if-head-ne-HEAD.false,
-        sym c.cursor_of.ensures ∙ c.in-Is.is,
-        c.header_status.ensures,
-        c.put_head.ensures,
-        c.put_cursor.ensures,
-        c.read_header-a.ensures.answer,
-      ) (refl, (refl, (c.read_header-a.ensures.table, refl))).1.1.1;
-    }
+    rw (
+      eq-eqb _ _ c.if-head-ne-HEAD.false,
+      sym c.cursor_of.ensures ∙ c.in-Is.is,
+      c.header_status.ensures,
+      c.put_head.ensures,
+      c.put_cursor.ensures,
+      c.read_header-a.ensures.answer,
+    ) (record { status = refl; cursor = refl; rows = c.read_header-a.ensures.table; head = refl })
 
 pub returns-in-Bad : goal.returns-in-Bad
 unfolding header_call_of
-returns-in-Bad c = record { status = rw (eq-eqb _ _ c.if-head-ne-HEAD.false, sym c.cursor_of.ensures ∙ c.in-Bad.is) (refl, (refl, (refl, refl))).0; cursor = rw (eq-eqb _ _ c.if-head-ne-HEAD.false, sym c.cursor_of.ensures ∙ c.in-Bad.is) (refl, (refl, (refl, refl))).1.0; rows = rw (eq-eqb _ _ c.if-head-ne-HEAD.false, sym c.cursor_of.ensures ∙ c.in-Bad.is) (refl, (refl, (refl, refl))).1.1.0; head = rw (eq-eqb _ _ c.if-head-ne-HEAD.false, sym c.cursor_of.ensures ∙ c.in-Bad.is) (refl, (refl, (refl, refl))).1.1.1 }
+returns-in-Bad c = rw (eq-eqb _ _ c.if-head-ne-HEAD.false, sym c.cursor_of.ensures ∙ c.in-Bad.is) (record { status = refl; cursor = refl; rows = refl; head = refl })

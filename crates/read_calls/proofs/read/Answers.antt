@@ -11,33 +11,13 @@ put_cursor-requires c = cursor-four _ c.cursor_of.ensures c.in-Is.is
 pub returns-in-Is : goal.returns-in-Is
 unfolding read_call
 returns-in-Is c =
-    record {
-      status = rw (
-        sym c.cursor_of.ensures ∙ c.in-Is.is,
-        c.read_status.ensures,
-        c.put_cursor.ensures,
-        c.read-a.ensures.answer,
-      ) (refl, (refl, (c.read-a.ensures.table, refl))).0;
-      cursor = rw (
-        sym c.cursor_of.ensures ∙ c.in-Is.is,
-        c.read_status.ensures,
-        c.put_cursor.ensures,
-        c.read-a.ensures.answer,
-      ) (refl, (refl, (c.read-a.ensures.table, refl))).1.0;
-      records = rw (
-        sym c.cursor_of.ensures ∙ c.in-Is.is,
-        c.read_status.ensures,
-        c.put_cursor.ensures,
-        c.read-a.ensures.answer,
-      ) (refl, (refl, (c.read-a.ensures.table, refl))).1.1.0;
-      count = rw (
-        sym c.cursor_of.ensures ∙ c.in-Is.is,
-        c.read_status.ensures,
-        c.put_cursor.ensures,
-        c.read-a.ensures.answer,
-      ) (refl, (refl, (c.read-a.ensures.table, refl))).1.1.1;
-    }
+    rw (
+      sym c.cursor_of.ensures ∙ c.in-Is.is,
+      c.read_status.ensures,
+      c.put_cursor.ensures,
+      c.read-a.ensures.answer,
+    ) (record { status = refl; cursor = refl; records = c.read-a.ensures.table; count = refl })
 
 pub returns-in-Bad : goal.returns-in-Bad
 unfolding read_call
-returns-in-Bad c = record { status = rw (sym c.cursor_of.ensures ∙ c.in-Bad.is) (refl, (refl, (refl, refl))).0; cursor = rw (sym c.cursor_of.ensures ∙ c.in-Bad.is) (refl, (refl, (refl, refl))).1.0; records = rw (sym c.cursor_of.ensures ∙ c.in-Bad.is) (refl, (refl, (refl, refl))).1.1.0; count = rw (sym c.cursor_of.ensures ∙ c.in-Bad.is) (refl, (refl, (refl, refl))).1.1.1 }
+returns-in-Bad c = rw (sym c.cursor_of.ensures ∙ c.in-Bad.is) (record { status = refl; cursor = refl; records = refl; count = refl })

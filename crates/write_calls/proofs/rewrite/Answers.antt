@@ -14,68 +14,21 @@ put_writer-requires c = writer-three _ c.writer_of.ensures c.in-Is-writer_of.is
 pub returns-in-Is-writer_of : goal.returns-in-Is-writer_of
 unfolding rewrite_call
 returns-in-Is-writer_of c =
-    record {
-      status = rw (
-        sym c.cursor_of.ensures ∙ c.in-Is.is,
-        sym c.writer_of.ensures ∙ c.in-Is-writer_of.is,
-        c.rewrite_status.ensures.status,
-        c.rewrite_status.ensures.line,
-        c.put_writer.ensures,
-        c.put_cursor.ensures,
-        c.rewrite-a.ensures.answer,
-      ) (refl, (refl, (refl, (c.rewrite-a.ensures.bytes, (refl, refl))))).0;
-      cursor = rw (
-        sym c.cursor_of.ensures ∙ c.in-Is.is,
-        sym c.writer_of.ensures ∙ c.in-Is-writer_of.is,
-        c.rewrite_status.ensures.status,
-        c.rewrite_status.ensures.line,
-        c.put_writer.ensures,
-        c.put_cursor.ensures,
-        c.rewrite-a.ensures.answer,
-      ) (refl, (refl, (refl, (c.rewrite-a.ensures.bytes, (refl, refl))))).1.0;
-      writer = rw (
-        sym c.cursor_of.ensures ∙ c.in-Is.is,
-        sym c.writer_of.ensures ∙ c.in-Is-writer_of.is,
-        c.rewrite_status.ensures.status,
-        c.rewrite_status.ensures.line,
-        c.put_writer.ensures,
-        c.put_cursor.ensures,
-        c.rewrite-a.ensures.answer,
-      ) (refl, (refl, (refl, (c.rewrite-a.ensures.bytes, (refl, refl))))).1.1.0;
-      out = rw (
-        sym c.cursor_of.ensures ∙ c.in-Is.is,
-        sym c.writer_of.ensures ∙ c.in-Is-writer_of.is,
-        c.rewrite_status.ensures.status,
-        c.rewrite_status.ensures.line,
-        c.put_writer.ensures,
-        c.put_cursor.ensures,
-        c.rewrite-a.ensures.answer,
-      ) (refl, (refl, (refl, (c.rewrite-a.ensures.bytes, (refl, refl))))).1.1.1.0;
-      count = rw (
-        sym c.cursor_of.ensures ∙ c.in-Is.is,
-        sym c.writer_of.ensures ∙ c.in-Is-writer_of.is,
-        c.rewrite_status.ensures.status,
-        c.rewrite_status.ensures.line,
-        c.put_writer.ensures,
-        c.put_cursor.ensures,
-        c.rewrite-a.ensures.answer,
-      ) (refl, (refl, (refl, (c.rewrite-a.ensures.bytes, (refl, refl))))).1.1.1.1.0;
-      line = rw (
-        sym c.cursor_of.ensures ∙ c.in-Is.is,
-        sym c.writer_of.ensures ∙ c.in-Is-writer_of.is,
-        c.rewrite_status.ensures.status,
-        c.rewrite_status.ensures.line,
-        c.put_writer.ensures,
-        c.put_cursor.ensures,
-        c.rewrite-a.ensures.answer,
-      ) (refl, (refl, (refl, (c.rewrite-a.ensures.bytes, (refl, refl))))).1.1.1.1.1;
-    }
+    rw (
+      sym c.cursor_of.ensures ∙ c.in-Is.is,
+      sym c.writer_of.ensures ∙ c.in-Is-writer_of.is,
+      c.rewrite_status.ensures.status,
+      c.rewrite_status.ensures.line,
+      c.put_writer.ensures,
+      c.put_cursor.ensures,
+      c.rewrite-a.ensures.answer,
+    ) (record { status = refl; cursor = refl; writer = refl; out = c.rewrite-a.ensures.bytes; count = refl; line = refl })
 
 pub returns-in-Bad-writer_of : goal.returns-in-Bad-writer_of
 unfolding rewrite_call
 returns-in-Bad-writer_of c =
-    record { status = rw (sym c.cursor_of.ensures ∙ c.in-Is.is, sym c.writer_of.ensures ∙ c.in-Bad-writer_of.is) (refl, (refl, (refl, (refl, (refl, refl))))).0; cursor = rw (sym c.cursor_of.ensures ∙ c.in-Is.is, sym c.writer_of.ensures ∙ c.in-Bad-writer_of.is) (refl, (refl, (refl, (refl, (refl, refl))))).1.0; writer = rw (sym c.cursor_of.ensures ∙ c.in-Is.is, sym c.writer_of.ensures ∙ c.in-Bad-writer_of.is) (refl, (refl, (refl, (refl, (refl, refl))))).1.1.0; out = rw (sym c.cursor_of.ensures ∙ c.in-Is.is, sym c.writer_of.ensures ∙ c.in-Bad-writer_of.is) (refl, (refl, (refl, (refl, (refl, refl))))).1.1.1.0; count = rw (sym c.cursor_of.ensures ∙ c.in-Is.is, sym c.writer_of.ensures ∙ c.in-Bad-writer_of.is) (refl, (refl, (refl, (refl, (refl, refl))))).1.1.1.1.0; line = rw (sym c.cursor_of.ensures ∙ c.in-Is.is, sym c.writer_of.ensures ∙ c.in-Bad-writer_of.is) (refl, (refl, (refl, (refl, (refl, refl))))).1.1.1.1.1 }
+    rw (sym c.cursor_of.ensures ∙ c.in-Is.is, sym c.writer_of.ensures ∙ c.in-Bad-writer_of.is) (record { status = refl; cursor = refl; writer = refl; out = refl; count = refl; line = refl })
 
 pub returns-in-Bad : goal.returns-in-Bad
 unfolding rewrite_call
-returns-in-Bad c = record { status = rw (sym c.cursor_of.ensures ∙ c.in-Bad.is) (refl, (refl, (refl, (refl, (refl, refl))))).0; cursor = rw (sym c.cursor_of.ensures ∙ c.in-Bad.is) (refl, (refl, (refl, (refl, (refl, refl))))).1.0; writer = rw (sym c.cursor_of.ensures ∙ c.in-Bad.is) (refl, (refl, (refl, (refl, (refl, refl))))).1.1.0; out = rw (sym c.cursor_of.ensures ∙ c.in-Bad.is) (refl, (refl, (refl, (refl, (refl, refl))))).1.1.1.0; count = rw (sym c.cursor_of.ensures ∙ c.in-Bad.is) (refl, (refl, (refl, (refl, (refl, refl))))).1.1.1.1.0; line = rw (sym c.cursor_of.ensures ∙ c.in-Bad.is) (refl, (refl, (refl, (refl, (refl, refl))))).1.1.1.1.1 }
+returns-in-Bad c = rw (sym c.cursor_of.ensures ∙ c.in-Bad.is) (record { status = refl; cursor = refl; writer = refl; out = refl; count = refl; line = refl })

@@ -4,4 +4,4 @@ use borrow.Author.Rules.{rules}
 use Rattle.write_calls.proofs.rewrite_status.Goals as goal
 
 pub returns-in-Refused : goal.returns-in-Refused
-returns-in-Refused c = record { status = rw c.in-Refused.is (c.number.ensures); line = rw c.in-Refused.is (refl) }
+returns-in-Refused c = rw c.in-Refused.is (record { status = c.number.ensures; line = refl })

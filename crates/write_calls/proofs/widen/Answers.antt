@@ -4,7 +4,7 @@ use borrow.Author.Rules.{rules}
 use Rattle.write_calls.proofs.widen.Goals as goal
 
 pub returns-in-Bytes : goal.returns-in-Bytes
-returns-in-Bytes c = record { status = rw (← c.widen.ensures.0, c.in-Bytes.is) (refl, (c.widen.ensures.1, refl)).0; out = rw (← c.widen.ensures.0, c.in-Bytes.is) (refl, (c.widen.ensures.1, refl)).1.0; count = rw (← c.widen.ensures.0, c.in-Bytes.is) (refl, (c.widen.ensures.1, refl)).1.1 }
+returns-in-Bytes c = rw (← c.widen.ensures.0, c.in-Bytes.is) (record { status = refl; out = c.widen.ensures.1; count = refl })
 
 pub returns-in-Refused : goal.returns-in-Refused
-returns-in-Refused c = record { status = rw (← c.widen.ensures.0, c.in-Refused.is) (c.number.ensures, (c.widen.ensures.1, refl)).0; out = rw (← c.widen.ensures.0, c.in-Refused.is) (c.number.ensures, (c.widen.ensures.1, refl)).1.0; count = rw (← c.widen.ensures.0, c.in-Refused.is) (c.number.ensures, (c.widen.ensures.1, refl)).1.1 }
+returns-in-Refused c = rw (← c.widen.ensures.0, c.in-Refused.is) (record { status = c.number.ensures; out = c.widen.ensures.1; count = refl })

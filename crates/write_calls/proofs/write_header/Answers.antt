@@ -11,33 +11,16 @@ wrote_header-requires c = writer-three _ c.writer_of.ensures c.in-Is.is
 pub returns-in-Is-head_of : goal.returns-in-Is-head_of
 unfolding write_header_call
 returns-in-Is-head_of c =
-    record {
-      status = rw (
-        sym c.writer_of.ensures ∙ c.in-Is.is,
-        sym c.head_of.ensures ∙ c.in-Is-head_of.is,
-        ← c.header.ensures.answers,
-      ) (c.wrote_header.ensures.status, (c.wrote_header.ensures.writer, (c.header.ensures.leaves, c.wrote_header.ensures.count))).0;
-      writer = rw (
-        sym c.writer_of.ensures ∙ c.in-Is.is,
-        sym c.head_of.ensures ∙ c.in-Is-head_of.is,
-        ← c.header.ensures.answers,
-      ) (c.wrote_header.ensures.status, (c.wrote_header.ensures.writer, (c.header.ensures.leaves, c.wrote_header.ensures.count))).1.0;
-      out = rw (
-        sym c.writer_of.ensures ∙ c.in-Is.is,
-        sym c.head_of.ensures ∙ c.in-Is-head_of.is,
-        ← c.header.ensures.answers,
-      ) (c.wrote_header.ensures.status, (c.wrote_header.ensures.writer, (c.header.ensures.leaves, c.wrote_header.ensures.count))).1.1.0;
-      count = rw (
-        sym c.writer_of.ensures ∙ c.in-Is.is,
-        sym c.head_of.ensures ∙ c.in-Is-head_of.is,
-        ← c.header.ensures.answers,
-      ) (c.wrote_header.ensures.status, (c.wrote_header.ensures.writer, (c.header.ensures.leaves, c.wrote_header.ensures.count))).1.1.1;
-    }
+    rw (
+      sym c.writer_of.ensures ∙ c.in-Is.is,
+      sym c.head_of.ensures ∙ c.in-Is-head_of.is,
+      ← c.header.ensures.answers,
+    ) (record { status = c.wrote_header.ensures.status; writer = c.wrote_header.ensures.writer; out = c.header.ensures.leaves; count = c.wrote_header.ensures.count })
 
 pub returns-in-Bad-head_of : goal.returns-in-Bad-head_of
 unfolding write_header_call
-returns-in-Bad-head_of c = record { status = rw (sym c.writer_of.ensures ∙ c.in-Is.is, sym c.head_of.ensures ∙ c.in-Bad-head_of.is) (refl, (refl, (refl, refl))).0; writer = rw (sym c.writer_of.ensures ∙ c.in-Is.is, sym c.head_of.ensures ∙ c.in-Bad-head_of.is) (refl, (refl, (refl, refl))).1.0; out = rw (sym c.writer_of.ensures ∙ c.in-Is.is, sym c.head_of.ensures ∙ c.in-Bad-head_of.is) (refl, (refl, (refl, refl))).1.1.0; count = rw (sym c.writer_of.ensures ∙ c.in-Is.is, sym c.head_of.ensures ∙ c.in-Bad-head_of.is) (refl, (refl, (refl, refl))).1.1.1 }
+returns-in-Bad-head_of c = rw (sym c.writer_of.ensures ∙ c.in-Is.is, sym c.head_of.ensures ∙ c.in-Bad-head_of.is) (record { status = refl; writer = refl; out = refl; count = refl })
 
 pub returns-in-Bad : goal.returns-in-Bad
 unfolding write_header_call
-returns-in-Bad c = record { status = rw (sym c.writer_of.ensures ∙ c.in-Bad.is) (refl, (refl, (refl, refl))).0; writer = rw (sym c.writer_of.ensures ∙ c.in-Bad.is) (refl, (refl, (refl, refl))).1.0; out = rw (sym c.writer_of.ensures ∙ c.in-Bad.is) (refl, (refl, (refl, refl))).1.1.0; count = rw (sym c.writer_of.ensures ∙ c.in-Bad.is) (refl, (refl, (refl, refl))).1.1.1 }
+returns-in-Bad c = rw (sym c.writer_of.ensures ∙ c.in-Bad.is) (record { status = refl; writer = refl; out = refl; count = refl })

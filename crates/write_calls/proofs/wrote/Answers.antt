@@ -4,7 +4,7 @@ use borrow.Author.Rules.{rules}
 use Rattle.write_calls.proofs.wrote.Goals as goal
 
 pub returns-in-Bytes : goal.returns-in-Bytes
-returns-in-Bytes c = record { status = rw c.in-Bytes.is (refl, (c.put_writer.ensures, refl)).0; writer = rw c.in-Bytes.is (refl, (c.put_writer.ensures, refl)).1.0; count = rw c.in-Bytes.is (refl, (c.put_writer.ensures, refl)).1.1 }
+returns-in-Bytes c = rw c.in-Bytes.is (record { status = refl; writer = c.put_writer.ensures; count = refl })
 
 pub returns-in-Refused : goal.returns-in-Refused
-returns-in-Refused c = record { status = rw c.in-Refused.is (c.number.ensures, (refl, refl)).0; writer = rw c.in-Refused.is (c.number.ensures, (refl, refl)).1.0; count = rw c.in-Refused.is (c.number.ensures, (refl, refl)).1.1 }
+returns-in-Refused c = rw c.in-Refused.is (record { status = c.number.ensures; writer = refl; count = refl })
