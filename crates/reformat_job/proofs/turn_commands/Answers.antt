@@ -4,6 +4,7 @@ use borrow.Author.Rules.{rules}
 use Rattle.reformat_job.proofs.turn_commands.Goals as goal
 
 pub returns : goal.returns
-returns c = let x = c.args in
+returns c =
+    let x = c.args in
     let p = c.rewrite-r.ensures in
-    commands-done x.input.now x.c x.w x.out.now p.0 p.1 c.next_state.ensures
+    commands-done x.input.now x.c x.w x.out.now p.answer p.bytes c.next_state.ensures

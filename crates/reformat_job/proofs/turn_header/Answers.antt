@@ -6,23 +6,21 @@ use borrow.Author.Rules.{rules}
 use Rattle.reformat_job.proofs.turn_header.Goals as goal
 
 pub returns-in-Bytes : goal.returns-in-Bytes
-returns-in-Bytes c = let x = c.args in
-let f = c.new.ensures in
-let d = c.header.ensures in record { answer = ((
-      ap (headed_turn x.c) (sym c.in-Bytes.is ∙ header-turn x.input.now x.kept x.rows.now x.count x.out.now f d),
-      header-left x.input.now x.kept x.rows.now x.count x.out.now f d,
-    )).0; bytes = ((
-      ap (headed_turn x.c) (sym c.in-Bytes.is ∙ header-turn x.input.now x.kept x.rows.now x.count x.out.now f d),
-      header-left x.input.now x.kept x.rows.now x.count x.out.now f d,
-    )).1 }
+returns-in-Bytes c =
+    let x = c.args in
+    let f = c.new.ensures in
+    let d = c.header.ensures in
+    record {
+      answer = ap (headed_turn x.c) (sym c.in-Bytes.is ∙ header-turn x.input.now x.kept x.rows.now x.count x.out.now f d);
+      bytes = header-left x.input.now x.kept x.rows.now x.count x.out.now f d;
+    }
 
 pub returns-in-Refused : goal.returns-in-Refused
-returns-in-Refused c = let x = c.args in
-let f = c.new.ensures in
-let d = c.header.ensures in record { answer = ((
-      ap (headed_turn x.c) (sym c.in-Refused.is ∙ header-turn x.input.now x.kept x.rows.now x.count x.out.now f d),
-      header-left x.input.now x.kept x.rows.now x.count x.out.now f d,
-    )).0; bytes = ((
-      ap (headed_turn x.c) (sym c.in-Refused.is ∙ header-turn x.input.now x.kept x.rows.now x.count x.out.now f d),
-      header-left x.input.now x.kept x.rows.now x.count x.out.now f d,
-    )).1 }
+returns-in-Refused c =
+    let x = c.args in
+    let f = c.new.ensures in
+    let d = c.header.ensures in
+    record {
+      answer = ap (headed_turn x.c) (sym c.in-Refused.is ∙ header-turn x.input.now x.kept x.rows.now x.count x.out.now f d);
+      bytes = header-left x.input.now x.kept x.rows.now x.count x.out.now f d;
+    }
