@@ -12,9 +12,9 @@ pub returns-in-Whole : goal.returns-in-Whole
 returns-in-Whole c = let x = c.args in
     let h = c.read_header-h.ensures in
     let p = c.turn_header.ensures in
-    begin-whole x.input.now x.rows.now x.out.now c.if-input-gt-TAKEN.false c.start.ensures h.0 h.1 c.in-Whole.is p.0 p.1
+    begin-whole x.input.now x.rows.now x.out.now c.if-input-gt-TAKEN.false c.start.ensures h.answer h.table c.in-Whole.is p.answer p.bytes
 
 pub returns-in-Refused : goal.returns-in-Refused
 returns-in-Refused c = let x = c.args in
     let h = c.read_header-h.ensures in
-    begin-refused x.input.now x.rows.now x.out.now c.if-input-gt-TAKEN.false c.start.ensures h.0 h.1 c.in-Refused.is
+    begin-refused x.input.now x.rows.now x.out.now c.if-input-gt-TAKEN.false c.start.ensures h.answer h.table c.in-Refused.is
