@@ -7,13 +7,13 @@ use Rattle.list_job.specs.Turns.{Tables, left}
 use Rattle.list_job.proofs.Turning.{turn_on}
 use Rattle.job.proofs.listed.take_turns.Goals as goal
 
-pub loop-rows-smaller : goal.loop-rows-smaller
-loop-rows-smaller c =
-    (turn_on c.args.input.now _ _ _ _ c.loop-rows.invariant.0 c.is_finished.ensures (c.loop-rows-test.true) c.take_turn-t.ensures).1
+pub loop-stdout-smaller : goal.loop-stdout-smaller
+loop-stdout-smaller c =
+    (turn_on c.args.input.now _ _ _ _ c.loop-stdout.invariant.0 c.is_finished.ensures (c.loop-stdout-test.true) c.take_turn-t.ensures).1
 
-pub loop-rows-preserved : goal.loop-rows-preserved
-loop-rows-preserved c = (
-  (turn_on c.args.input.now _ _ _ _ c.loop-rows.invariant.0 c.is_finished.ensures (c.loop-rows-test.true) c.take_turn-t.ensures).0,
+pub loop-stdout-preserved : goal.loop-stdout-preserved
+loop-stdout-preserved c = (
+  (turn_on c.args.input.now _ _ _ _ c.loop-stdout.invariant.0 c.is_finished.ensures (c.loop-stdout-test.true) c.take_turn-t.ensures).0,
   search rules,
   search rules,
   search rules,

@@ -7,9 +7,9 @@ use Rattle.list_job.specs.Turns.{Tables, left}
 use Rattle.list_job.proofs.Turning.{turn_on}
 use Rattle.job.proofs.listed.take_turns.Given as goal
 
-abbrev pub invariant-loop-rows : goal.invariant-loop-rows
-invariant-loop-rows l =
+abbrev pub invariant-loop-stdout : goal.invariant-loop-stdout
+invariant-loop-stdout l =
     Tables l.rows l.changes l.state × (length l.rows ≡ length l.initial.rows) × (length l.changes ≡ length l.initial.changes) × (length l.out ≡ length l.initial.out)
 
-abbrev pub decreases-loop-rows : goal.decreases-loop-rows
-decreases-loop-rows l = left l.state
+abbrev pub decreases-loop-stdout : goal.decreases-loop-stdout
+decreases-loop-stdout l = left l.state

@@ -6,7 +6,7 @@ use borrow.Author.Rules.{rules}
 use Rattle.reformat_job.proofs.Turning.{left, turn_on}
 use Rattle.job.proofs.rewriting.take_turns.Goals as goal
 
-pub loop-rows-smaller : goal.loop-rows-smaller
-loop-rows-smaller c =
-    let l = c.loop-rows in
-    turn_on c.args.input.now l.rows l.out l.state c.is_finished.ensures (c.loop-rows-test.true) c.take_turn-t.ensures
+pub loop-stdout-smaller : goal.loop-stdout-smaller
+loop-stdout-smaller c =
+    let l = c.loop-stdout in
+    turn_on c.args.input.now l.rows l.out l.state c.is_finished.ensures (c.loop-stdout-test.true) c.take_turn-t.ensures

@@ -6,8 +6,8 @@ use borrow.Author.Rules.{rules}
 use Rattle.reformat_job.proofs.Turning.{left, turn_on}
 use Rattle.job.proofs.rewriting.take_turns.Given as goal
 
-abbrev pub invariant-loop-rows : goal.invariant-loop-rows
-invariant-loop-rows l = (length l.rows ≡ length l.initial.rows) × (length l.out ≡ length l.initial.out)
+abbrev pub invariant-loop-stdout : goal.invariant-loop-stdout
+invariant-loop-stdout l = (length l.rows ≡ length l.initial.rows) × (length l.out ≡ length l.initial.out)
 
-abbrev pub decreases-loop-rows : goal.decreases-loop-rows
-decreases-loop-rows l = left l.input l.state
+abbrev pub decreases-loop-stdout : goal.decreases-loop-stdout
+decreases-loop-stdout l = left l.input l.state
