@@ -1,5 +1,4 @@
 -- Goals of `parser_part::id_at` that the search leaves.
-use Rattle.std.proofs.Common.{rules}
 use Rattle.parser_part.proofs.id_at.Goals as goal
 
 pub returns-in-Code : goal.returns-in-Code

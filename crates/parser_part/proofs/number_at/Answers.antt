@@ -1,5 +1,4 @@
 -- Goals of `parser_part::number_at` that the search leaves.
-use Rattle.std.proofs.Common.{rules}
 use Rattle.parser_part.proofs.number_at.Goals as goal
 
 pub returns-in-Is : goal.returns-in-Is

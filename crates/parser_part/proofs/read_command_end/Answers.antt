@@ -1,5 +1,5 @@
 -- Goals of `parser_part::read_command_end` that the search leaves.
-use Rattle.std.proofs.Common.{sym, ◌∙◌, rules}
+use Rattle.std.proofs.Common.{sym, ◌∙◌}
 use Rattle.parser_part.proofs.Answers.{closed, not-closed, close-refused}
 use Rattle.parser_part.proofs.read_command_end.Goals as goal
 

@@ -1,5 +1,5 @@
 -- Goals of `parser_part::read_id` that the search leaves.
-use Rattle.std.proofs.Common.{sym, ◌∙◌, rules}
+use Rattle.std.proofs.Common.{sym, ◌∙◌}
 use Rattle.parser_part.proofs.Answers.{id-parsed, id-refused}
 use Rattle.parser_part.proofs.read_id.Goals as goal
 

@@ -1,5 +1,5 @@
 -- Goals of `parser_part::read_name` that the search leaves.
-use Rattle.std.proofs.Common.{◌∙◌, rules}
+use Rattle.std.proofs.Common.{◌∙◌}
 use Rattle.parser_part.proofs.Parts.{word-no-limit}
 use Rattle.parser_part.proofs.read_name.Goals as goal
 

@@ -1,5 +1,5 @@
 -- Goals of `parser_part::read_number` that the search leaves.
-use Rattle.std.proofs.Common.{sym, ◌∙◌, rules}
+use Rattle.std.proofs.Common.{sym, ◌∙◌}
 use Rattle.parser_part.proofs.Answers.{number-parsed, number-refused}
 use Rattle.parser_part.proofs.read_number.Goals as goal
 

@@ -1,5 +1,5 @@
 -- Goals of `parser_part::read_token_str` that the search leaves.
-use Rattle.std.proofs.Common.{sym, ◌∙◌, rules}
+use Rattle.std.proofs.Common.{sym, ◌∙◌}
 use Rattle.parser_part.proofs.Answers.{word_good, word-bad, word-refused}
 use Rattle.parser_part.proofs.read_token_str.Goals as goal
 

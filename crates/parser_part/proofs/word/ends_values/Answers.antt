@@ -1,5 +1,5 @@
 -- Goals of `parser_part::word::ends_values` that the search leaves.
-use Rattle.std.proofs.Common.{◌<◌, false, ltb, length, sym, arith, rules, le-ltb, lt-ltb}
+use Rattle.std.proofs.Common.{◌<◌, false, ltb, length, sym, arith, le-ltb, lt-ltb}
 use Rattle.text.proofs.Lists.{cond_same}
 use Rattle.parser_part.proofs.word.ends_values.Goals as goal
 

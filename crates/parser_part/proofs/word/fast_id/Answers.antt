@@ -1,5 +1,5 @@
 -- Goals of `parser_part::word::fast_id` that the search leaves.
-use Rattle.std.proofs.Common.{sym, ◌∙◌, rules}
+use Rattle.std.proofs.Common.{sym, ◌∙◌}
 use Rattle.parser_part.proofs.FastWords.{id-one}
 use Rattle.parser_part.proofs.word.fast_id.Goals as goal
 

@@ -1,6 +1,6 @@
 -- Goals of `parser_part::word::fast_long_id` that the search leaves.
-use Rattle.std.proofs.Common.{◌-◌, length, sym, ◌∙◌, arith, rules}
-use Rattle.parser_part.proofs.FastWords.{IdTo, id-start, id-more, id-end, power-fits, product-fits}
+use Rattle.std.proofs.Common.{sym, ◌∙◌, arith}
+use Rattle.parser_part.proofs.FastWords.{id-start, id-more, id-end, power-fits, product-fits}
 use Rattle.parser_part.proofs.word.fast_long_id.Goals as goal
 
 pub wide-sum-requires : goal.wide-sum-requires

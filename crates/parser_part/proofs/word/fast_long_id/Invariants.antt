@@ -1,6 +1,6 @@
 -- What the loops of `parser_part::word::fast_long_id` keep.
-use Rattle.std.proofs.Common.{◌-◌, length, sym, ◌∙◌, arith, rules}
-use Rattle.parser_part.proofs.FastWords.{IdTo, id-start, id-more, id-end, power-fits, product-fits}
+use Rattle.std.proofs.Common.{◌-◌, length}
+use Rattle.parser_part.proofs.FastWords.{IdTo}
 use Rattle.parser_part.proofs.word.fast_long_id.Given as goal
 
 abbrev pub invariant-loop-i : goal.invariant-loop-i

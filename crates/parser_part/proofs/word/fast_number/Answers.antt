@@ -1,6 +1,6 @@
 -- Goals of `parser_part::word::fast_number` that the search leaves.
-use Rattle.std.proofs.Common.{◌+◌, ◌-◌, ◌≤◌, length, arith, rules}
-use Rattle.parser_part.proofs.FastWords.{DigitsTo, digits-start, digits_more, digits-judged, digits-fit}
+use Rattle.std.proofs.Common.{arith}
+use Rattle.parser_part.proofs.FastWords.{digits-start, digits_more, digits-judged, digits-fit}
 use Rattle.parser_part.proofs.word.fast_number.Goals as goal
 
 pub returns-then-stop-at : goal.returns-then-stop-at

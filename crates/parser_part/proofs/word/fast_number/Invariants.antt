@@ -1,6 +1,6 @@
 -- What the loops of `parser_part::word::fast_number` keep.
-use Rattle.std.proofs.Common.{◌+◌, ◌-◌, ◌≤◌, length, arith, rules}
-use Rattle.parser_part.proofs.FastWords.{DigitsTo, digits-start, digits_more, digits-judged, digits-fit}
+use Rattle.std.proofs.Common.{◌+◌, ◌-◌, ◌≤◌, length}
+use Rattle.parser_part.proofs.FastWords.{DigitsTo}
 use Rattle.parser_part.proofs.word.fast_number.Given as goal
 
 abbrev pub invariant-loop-i : goal.invariant-loop-i

@@ -1,5 +1,5 @@
 -- Goals of `parser_part::word::number_end` that the search leaves.
-use Rattle.std.proofs.Common.{sym, ◌∙◌, rules}
+use Rattle.std.proofs.Common.{sym, ◌∙◌}
 use Rattle.parser_part.proofs.word.number_end.Goals as goal
 
 pub returns-then-whitespace_byte : goal.returns-then-whitespace_byte
