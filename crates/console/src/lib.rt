@@ -4,9 +4,10 @@
 
 ghost use Rattle.std.specs.Prelude.{◌≤◌};
 
-use std::fs::{Files, OpenOptions};
+use std::fs::{File, Files, OpenOptions};
 use std::io;
 use std::io::{ErrorKind, Read, Stderr, Stdin, Stdout, Write};
+use text::Text;
 pub use text::front;
 
 // What was read of standard input: so many bytes, up to its end or the buffer's; or nothing that can be counted on.
@@ -29,6 +30,12 @@ const TRIES: u64 = 1000000;
 
 // Descriptor 3 by name: std reaches no descriptor by its number but those of the standard streams.
 const OUTCOME: &str = "/proc/self/fd/3";
+
+// What Linux tells of descriptor 3, line by line.
+const ABOUT: &str = "/proc/self/fdinfo/3";
+
+// How the line begins that tells what it was opened for.
+const FLAGS: &[u8] = b"flags:";
 
 // Reads standard input until it ends or the buffer is full.
 pub fn read_input(stdin: Stdin, buf: &mut [u8]) -> Input {
@@ -61,9 +68,12 @@ pub fn write_error(stderr: Stderr, line: &[u8]) {
     write_all(&mut to, line);
 }
 
-// Writes the outcome, if somebody takes it. What descriptor 3 is, is opened anew: to append, as what was written there before stays, and to
-// read too, as a pipe that nobody reads any more would be waited for.
+// Writes the outcome, if somebody takes it: where descriptor 3 is open for writing. What it is, is opened anew: to append, as what was
+// written there before stays, and to read too, as a pipe that nobody reads any more would be waited for.
 pub fn write_outcome(files: &impl Files, digit: u8) {
+    if !takes_outcome(files) {
+        return;
+    }
     let mut how = OpenOptions::new();
     how.read(true);
     how.append(true);
@@ -91,6 +101,40 @@ pub fn finish(stderr: Stderr, files: &impl Files, written: bool, whole: bool, li
         return;
     }
     write_outcome(files, PARTIAL);
+}
+
+// Whether descriptor 3 is open for writing. The line that tells it is among the first.
+fn takes_outcome(files: &impl Files) -> bool {
+    let Ok(file) = File::open(files, ABOUT) else {
+        return false;
+    };
+    let mut from = file;
+    let mut about = [0u8; 256];
+    let n = moved(read_some(&mut from, &mut about), 256);
+    tells_writing(front(&about, n))
+}
+
+// Whether lines about a descriptor tell that it is open for writing: the last digit of its flags, which are octal, is 1 or 2 in its lowest
+// two bits, for writing alone or for reading too.
+fn tells_writing(about: &[u8]) -> bool {
+    let mut name = Text {
+        start: 0,
+        len: FLAGS.len(),
+    };
+    let mut last: u8 = 0;
+    let mut i: usize = 0;
+    while i < about.len() {
+        let b = about[i];
+        i += 1;
+        if b != b'\n' {
+            last = b;
+        } else if text::is_word(about, name, FLAGS) {
+            return matches!(last, b'1' | b'2' | b'5' | b'6');
+        } else {
+            name.start = i;
+        }
+    }
+    false
 }
 
 // A write that moves nothing would move nothing again: it ends this as one that fails.
