@@ -7,7 +7,7 @@ use Rattle.scope.specs.declared.ScopeType.{ScopeType}
 use Rattle.text.specs.declared.Text.{Text}
 use Rattle.token.specs.declared.Cursor.{Cursor}
 use Rattle.rows.specs.Rows.{filled as rows_filled}
-use Rattle.header.specs.Header.{Step, off, move, header_of}
+use Rattle.header.specs.Header.{off, move, header_of}
 use Rattle.header.specs.declared.Header.{Header}
 use Rattle.records.specs.Read.{read_of, filled as records_filled}
 use Rattle.write.specs.declared.Writer.{Writer}

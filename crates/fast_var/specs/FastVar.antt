@@ -1,5 +1,5 @@
 -- A hit of the fast path over a variable's definition, and what its parts do.
-use Rattle.std.specs.Prelude.{◌≡◌, ℕ, ◌+◌, ◌-◌, ◌%◌, ◌^◌, ◌<◌, ◌≤◌, true, cond, List, length, drop, ◌==◌, slice_index, slice_index_or, slice_range}
+use Rattle.std.specs.Prelude.{◌≡◌, ℕ, ◌+◌, ◌%◌, ◌^◌, ◌<◌, ◌≤◌, true, cond, List, length, drop, ◌==◌, slice_index, slice_index_or, slice_range}
 use Prim.Native.String.{String}
 use Rattle.text.specs.Bytes.{bytes, starts}
 use Rattle.command.specs.Words.{end_mark, word_name}

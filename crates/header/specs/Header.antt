@@ -1,5 +1,5 @@
 -- Reading a header: the commands in order, with a stack of the open scopes. The order of refusals stands in `move` alone.
-use Rattle.std.specs.Prelude.{ℕ, ◌+◌, ◌*◌, ◌/◌, min, cond, List, [], ◌∷◌, ◌++◌, ltb, length, drop}
+use Rattle.std.specs.Prelude.{ℕ, ◌+◌, ◌/◌, min, cond, List, [], ◌∷◌, ◌++◌, ltb, length}
 use Rattle.scope.specs.Limits.{most_levels, most_rows}
 use Rattle.command.specs.declared.Command.{Command}
 use Rattle.command.specs.declared.Refusal.{Refusal}
@@ -7,7 +7,6 @@ use Rattle.parser.specs.All.{Commands, command, stop, finish, commands}
 use Rattle.text.specs.declared.Text.{Text}
 use Rattle.timescale.specs.declared.TimescaleUnit.{TimescaleUnit}
 use Rattle.token.specs.declared.Cursor.{Cursor}
-use Rattle.rows.specs.Rows.{words_of}
 use Rattle.header.specs.declared.Ended.{Ended}
 use Rattle.header.specs.declared.Header.{Header}
 use Rattle.header.specs.declared.HeaderAnswer.{HeaderAnswer}

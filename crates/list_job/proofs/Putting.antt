@@ -1,13 +1,12 @@
 -- A line that is put whole or not at all, as lines that have room.
-use Prim.Native.Nat.{ℕ, ◌+◌, ◌-◌, ◌≤◌, ◌<◌}
+use Prim.Native.Nat.{ℕ, ◌+◌, ◌≤◌, ◌<◌}
 use mathlib.Core.Path.{◌≡◌, refl, sym, ap, ◌∙◌}
-use mathlib.Core.Bool.{Bool, true, false, ◌&&◌}
-use mathlib.Core.List.{List, [], ◌∷◌, ◌++◌, append-nil}
+use mathlib.Core.Bool.{Bool, true, false}
+use mathlib.Core.List.{List, [], ◌∷◌, append-nil}
 use native.Mathlib.Omega.{arith}
-use borrow.Author.Tests.{le-leb, lt-leb, lt-ltb, le-ltb, eq-eqb, ne_eqb}
+use borrow.Author.Tests.{le-leb, lt-leb, lt-ltb, le-ltb, ne_eqb}
 use lib.Dec.{leb}
-use lib.ListN.{length, drop}
-use Rattle.emit.specs.Put.{concat}
+use lib.ListN.{length}
 use Rattle.command.specs.Refusals.{number_of}
 use Rattle.command.specs.declared.Refusal.{Refusal}
 use Rattle.header.specs.Header.{header_of, answer_of as header_answer}
@@ -16,7 +15,7 @@ use Rattle.header.specs.declared.Ended.{Ended as HeaderEnded}
 use Rattle.header.specs.declared.HeaderAnswer.{HeaderAnswer}
 use Rattle.rows.specs.declared.Row.{Row}
 use Rattle.rows.specs.declared.Parent.{Parent}
-use Rattle.lines.specs.Lines.{taken, fitting, filled, full_line, refused_line, lines_from, put, answer_of}
+use Rattle.lines.specs.Lines.{taken, fitting, filled, full_line, refused_line, put, answer_of}
 use Rattle.lines.specs.declared.Lines.{Lines}
 use Rattle.change.specs.Rows.{filled as list_filled}
 use Rattle.listing.specs.Listing.{list_of, answer_of as list_answer}
@@ -29,8 +28,8 @@ use Rattle.token.specs.declared.Cursor.{Cursor}
 use Rattle.text.specs.Texts.{put_answer, put_bytes}
 use Rattle.text.specs.declared.Placed.{Placed}
 use Rattle.text.proofs.Lists.{by-test}
-use Rattle.list_job.specs.Whole.{met_lines, is_full, met_then, end_lines, long_lines, is_whole}
-use Rattle.list_job.specs.Turns.{Does, Begins, Lists, Prints, Puts, fit, count_of, final, row_on, begin_turn, next_row, met_row, var_turn, row_then, row_turn, ahead, some, lines_turn}
+use Rattle.list_job.specs.Whole.{met_lines, is_full, met_then, end_lines, long_lines}
+use Rattle.list_job.specs.Turns.{Does, Begins, Lists, Prints, Puts, fit, count_of, final, row_on, begin_turn, next_row, met_row, row_then, row_turn, ahead, lines_turn}
 use Rattle.list_job.specs.declared.Met.{Met}
 use Rattle.list_job.specs.declared.Place.{Place}
 use Rattle.list_job.specs.declared.Printing.{Printing}

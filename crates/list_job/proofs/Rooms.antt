@@ -1,10 +1,10 @@
 -- Every line has room in the bytes that are lent: a name and a value of the input, two numbers, and four bytes. So the turns print all.
-use Prim.Native.Nat.{ℕ, zero, suc, ◌+◌, ◌-◌, ◌^◌, ◌≤◌, ◌<◌, min}
-use mathlib.Core.Path.{◌≡◌, refl, sym, ap, ◌∙◌}
-use mathlib.Core.Bool.{Bool, true, false, cond}
+use Prim.Native.Nat.{ℕ, zero, suc, ◌+◌, ◌^◌, ◌≤◌, ◌<◌}
+use mathlib.Core.Path.{◌≡◌, refl}
+use mathlib.Core.Bool.{false}
 use mathlib.Core.List.{List, [], ◌∷◌, ◌++◌, map}
 use native.Mathlib.Omega.{arith}
-use borrow.Author.Tests.{ltb-true, ltb-false, leb-true, leb-false}
+use borrow.Author.Tests.{ltb-false, leb-true}
 use lib.Dec.{eqb, leb, ltb}
 use lib.ListN.{length, take, drop, length-append, length-take, length-drop, length-map, length-replicate}
 use Rattle.command.specs.Refusals.{number_of}
@@ -16,7 +16,6 @@ use Rattle.header.specs.declared.Header.{Header}
 use Rattle.rows.specs.declared.Row.{Row}
 use Rattle.parser.proofs.Ranged.{Ranged, command-ranged}
 use Rattle.idcode.specs.declared.IdCode.{IdCode}
-use Rattle.emit.specs.Put.{concat}
 use Rattle.lines.specs.Lines.{taken, header_rows, time_text, value_text, change_line, full_line, refused_line}
 use Rattle.list_step.specs.Step.{Role, time, change, other, role_of}
 use Rattle.listing.specs.Listing.{Entry, entries, since_after, changes, stop_of, last_of, time_of, Outcome, rows_in, cut, list_in}
@@ -37,7 +36,7 @@ use Rattle.text.specs.declared.Text.{Text}
 use Rattle.text.proofs.Lists.{by-test}
 use Rattle.token.specs.Read.{Valid}
 use Rattle.token.specs.declared.Cursor.{Cursor}
-use Rattle.list_job.specs.Whole.{most_changes, is_full, met_lines, met_then, end_lines, long_lines, listed, var_lines, rows_lines, heading, headed_lines, list_lines, list_text, list_whole}
+use Rattle.list_job.specs.Whole.{most_changes, is_full, met_lines, met_then, end_lines, listed, var_lines, rows_lines, heading, headed_lines, list_lines, list_text, list_whole}
 use Rattle.list_job.specs.Turns.{lent, row_words, change_words, Roomy, Runs}
 use Rattle.list_job.specs.declared.Met.{Met}
 use Rattle.list_job.specs.declared.State.{State}

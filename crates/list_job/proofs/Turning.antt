@@ -1,18 +1,17 @@
 -- The turns print the listing: the lines of a turn, with what is still to come after it, are what was to come before it; and the
 -- outcome stays the same.
-use Prim.Native.Nat.{ℕ, zero, suc, ◌+◌, ◌-◌, ◌*◌, ◌/◌, ◌≤◌, ◌<◌, min}
+use Prim.Native.Nat.{ℕ, zero, suc, ◌+◌, ◌-◌, ◌/◌, ◌≤◌, ◌<◌}
 use mathlib.Core.Path.{◌≡◌, refl, sym, ap, subst, ◌∙◌}
 use mathlib.Core.Bool.{Bool, true, false, cond, ◌&&◌}
 use mathlib.Core.List.{List, [], ◌∷◌, ◌++◌, map, append_assoc, append-nil}
-use native.Mathlib.Nat.{add-zero, add_assoc}
+use native.Mathlib.Nat.{add-zero}
 use native.Mathlib.Numerals.{add-one}
 use native.Mathlib.Omega.{arith}
-use borrow.Author.Tests.{le-leb, lt-leb, leb-true, leb-false, ltb-true, ltb-false, ne_eqb}
-use lib.Dec.{eqb, leb, ltb}
-use lib.ListN.{length, get_or, take, drop, length-append}
-use lib.Seq.{drop-cons, take-length}
-use Rattle.command.specs.Refusals.{number_of}
-use Rattle.header.specs.Header.{Outcome as Heading, header_of}
+use borrow.Author.Tests.{le-leb, leb-true, leb-false, ltb-true, ltb-false, ne_eqb}
+use lib.Dec.{leb, ltb}
+use lib.ListN.{length, get_or, drop}
+use lib.Seq.{drop-cons}
+use Rattle.header.specs.Header.{header_of}
 use Rattle.rows.specs.Rows.{row_at, rows_from, filled as header_filled}
 use Rattle.header.specs.declared.Ended.{Ended as HeaderEnded}
 use Rattle.rows.specs.declared.Row.{Row}
@@ -22,19 +21,18 @@ use Rattle.idcode.specs.declared.IdCode.{IdCode}
 use Rattle.emit.specs.Put.{concat}
 use Rattle.lines.specs.Lines.{taken, header_rows, change_line, lines_from, fitting}
 use Rattle.listing.specs.Listing.{Outcome, list_of}
-use Rattle.change.specs.Rows.{change_at, filled as list_filled}
+use Rattle.change.specs.Rows.{filled as list_filled}
 use Rattle.change.specs.declared.Since.{Since}
 use Rattle.listing.specs.declared.Ended.{Ended}
 use Rattle.change.specs.declared.Change.{Change}
 use Rattle.listing.proofs.Complete.{rows_fit}
 use Rattle.change.proofs.Table.{row-at, filled-length}
 use Rattle.parser.specs.Next.{fresh as fresh_cursor}
-use Rattle.scope.specs.declared.Var.{Var}
 use Rattle.text.specs.Texts.{part}
 use Rattle.text.proofs.Lists.{by-test}
 use Rattle.token.specs.declared.Cursor.{Cursor}
-use Rattle.list_job.specs.Whole.{most_changes, is_full, met_lines, met_then, end_lines, long_lines, listed, rows_lines, heading, headed_lines, list_lines, list_text, is_whole, rows_whole, headed_whole, list_whole}
-use Rattle.list_job.specs.Turns.{Turned, fit, final, opened, begin_turn, next_row, met_row, printing, var_turn, row_then, row_turn, ahead, passed, some, lines_turn, turn_of, Runs, ends, turn, rows_ahead, rest, whole_ahead, outcome, left, row_words, change_words, is_finished, Does, Tables, Nearer, Ends, Roomy}
+use Rattle.list_job.specs.Whole.{most_changes, is_full, met_lines, end_lines, long_lines, listed, rows_lines, heading, headed_lines, list_lines, list_text, is_whole, rows_whole, headed_whole, list_whole}
+use Rattle.list_job.specs.Turns.{Turned, fit, final, opened, begin_turn, next_row, met_row, row_then, row_turn, ahead, passed, some, lines_turn, turn_of, Runs, ends, turn, rows_ahead, rest, whole_ahead, outcome, left, row_words, change_words, is_finished, Does, Tables, Nearer, Ends, Roomy}
 use Rattle.list_job.specs.declared.Met.{Met}
 use Rattle.list_job.specs.declared.Place.{Place}
 use Rattle.list_job.specs.declared.Printing.{Printing}

@@ -1,6 +1,5 @@
 -- A turn: the lines that it puts, the state and the tables then; and what is still to be printed from a state on.
-use Rattle.std.specs.Prelude.{ℕ, ◌+◌, ◌-◌, ◌*◌, ◌≤◌, ◌<◌, ◌≡◌, Bool, true, false, cond, ◌&&◌, List, [], ◌∷◌, ◌++◌, map, eqb, ltb, leb, length, drop}
-use Rattle.command.specs.Refusals.{number_of}
+use Rattle.std.specs.Prelude.{ℕ, ◌+◌, ◌-◌, ◌*◌, ◌≤◌, ◌<◌, ◌≡◌, Bool, true, false, cond, ◌&&◌, List, [], ◌∷◌, ◌++◌, eqb, ltb, leb, length}
 use Rattle.header.specs.Header.{Outcome as Heading, header_of}
 use Rattle.rows.specs.Rows.{row_at, rows_from, filled as header_filled}
 use Rattle.header.specs.declared.Ended.{Ended as HeaderEnded}
@@ -13,10 +12,9 @@ use Rattle.listing.specs.declared.Ended.{Ended}
 use Rattle.scope.specs.declared.Var.{Var}
 use Rattle.text.specs.Texts.{part}
 use Rattle.text.specs.declared.Placed.{Placed}
-use Rattle.text.specs.declared.Text.{Text}
 use Rattle.token.specs.declared.Cursor.{Cursor}
 use Rattle.parser.specs.Next.{fresh as fresh_cursor}
-use Rattle.list_job.specs.Whole.{most_changes, met_lines, met_then, end_lines, long_lines, rows_lines, list_lines, list_text, is_whole, rows_whole, list_whole}
+use Rattle.list_job.specs.Whole.{most_changes, met_lines, met_then, end_lines, long_lines, rows_lines, list_lines, is_whole, rows_whole, list_whole}
 use Rattle.list_job.specs.declared.Met.{Met}
 use Rattle.list_job.specs.declared.Place.{Place}
 use Rattle.list_job.specs.declared.Printing.{Printing}

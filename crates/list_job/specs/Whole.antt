@@ -11,9 +11,8 @@ use Rattle.lines.specs.Lines.{taken, header_rows, long_line, change_line, full_l
 use Rattle.listing.specs.Listing.{Outcome, list_in}
 use Rattle.listing.specs.declared.Ended.{Ended}
 use Rattle.change.specs.declared.Since.{Since}
-use Rattle.parser.specs.All.{Commands, commands}
+use Rattle.parser.specs.All.{commands}
 use Rattle.text.specs.Texts.{part}
-use Rattle.text.specs.declared.Text.{Text}
 use Rattle.token.specs.declared.Cursor.{Cursor}
 use Rattle.parser.specs.Next.{fresh as fresh_cursor}
 use Rattle.list_job.specs.declared.Met.{Met}

@@ -1,6 +1,6 @@
 -- What a listing holds: with enough room every change of the code up to the first refusal or the end, once, in file order, with the last
 -- timestamp read before it, the given one until one is read; else as many as there is room for.
-use Prim.Native.Nat.{ℕ, zero, suc, ◌+◌, ◌≤◌, ◌<◌}
+use Prim.Native.Nat.{ℕ, zero, suc, ◌+◌, ◌≤◌}
 use mathlib.Core.Path.{◌≡◌, refl, sym, ap, ◌∙◌}
 use mathlib.Core.List.{List, [], ◌∷◌, ◌++◌, append_assoc, append-nil}
 use native.Mathlib.Omega.{arith}

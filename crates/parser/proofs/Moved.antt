@@ -10,7 +10,7 @@ use lib.ListN.{length, drop, length-take}
 use lib.Seq.{drop-append-add}
 use Rattle.text.specs.Bytes.{bytes, equal, starts, up_to}
 use Rattle.command.specs.Words.{end_mark}
-use Rattle.text.specs.Texts.{limit, part}
+use Rattle.text.specs.Texts.{part}
 use Rattle.utf8.specs.Utf8.{valid_utf8}
 use Rattle.text.specs.declared.Text.{Text}
 use Rattle.text.proofs.Lists.{by-test}

@@ -28,10 +28,9 @@ use Rattle.parser_part.specs.Plan.{answer, an_id, run, kind_of}
 use Rattle.parser.specs.All.{said, says}
 use Rattle.write_check.specs.Check.{is_name, are_lower, is_vector}
 use Rattle.write.specs.Layout.{layout, is_id}
-use Rattle.promises.proofs.Back.{Before, Back, fits, by_token, by_word, by_first, by_answer}
+use Rattle.promises.proofs.Back.{Before, Back, by_token, by_word, by_first, by_answer}
 use Rattle.promises.proofs.Plain.{plain-number, plain-id}
 use Rattle.promises.proofs.Reals.{plain-real}
-use Rattle.text.specs.Texts.{limit}
 
 -- ---- values
 -- a written value's byte is no blank, is its own lower case, and is one that the reader takes

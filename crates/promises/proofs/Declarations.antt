@@ -13,7 +13,7 @@ use Rattle.command.specs.Numbers.{sim_number}
 use Rattle.command.specs.Words.{end_mark}
 use Rattle.command.proofs.Numbers.{sim-order}
 use Rattle.text.specs.Names.{lookup}
-use Rattle.text.specs.Texts.{limit, part}
+use Rattle.text.specs.Texts.{part}
 use Rattle.utf8.specs.Utf8.{lies, due_after, well_formed, valid_utf8}
 use Rattle.text.specs.declared.Text.{Text}
 use Rattle.text.proofs.Lists.{both, cond_both}
@@ -50,7 +50,7 @@ use Rattle.command.specs.declared.Word.{Word}
 use Rattle.write_check.specs.Check.{is_name, is_trimmed}
 use Rattle.write.specs.Layout.{layout, is_id, is_open}
 use Rattle.write.specs.Run.{}
-use Rattle.promises.proofs.Back.{Before, Back, fits, by_word, by-text, by_answer, by-begins, by-ends, by-closing, by-dollar}
+use Rattle.promises.proofs.Back.{Before, Back, by_word, by-text, by_answer, by-begins, by-ends, by-closing, by-dollar}
 use Rattle.promises.proofs.Plain.{plain, plain-name, plain-number, plain-id}
 use Rattle.promises.proofs.Changes.{id-fits}
 use Rattle.promises.proofs.Trims.{framed-valid, framed-trim, framed-none}

@@ -5,7 +5,6 @@ use mathlib.Core.List.{List}
 use lib.Dec.{ltb}
 use lib.ListN.{length, get_or}
 use Rattle.command.specs.declared.Open.{Open}
-use Rattle.command.specs.declared.Refusal.{Refusal}
 use Rattle.parser.specs.Next.{is_good, found, next_from}
 use Rattle.parser_part.specs.Plan.{Plan, answer, begins, ends, refuse, a_token, a_text, run, and_then, ended, kind_of, kind_plan}
 use Rattle.parser_part.specs.declared.Next.{Next}

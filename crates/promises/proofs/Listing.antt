@@ -7,7 +7,7 @@ use native.Mathlib.Omega.{arith}
 use borrow.Author.Tests.{eqb-true, eq-eqb, leb-true, leb-false}
 use lib.Dec.{leb}
 use lib.ListN.{length, get_or, take, length-map, get_or-eq_default}
-use lib.Seq.{length-take-le, get_or-take, take_all, drop_at}
+use lib.Seq.{length-take-le, get_or-take, drop_at}
 use Rattle.text.specs.declared.Text.{Text}
 use Rattle.text.proofs.Lists.{by-test}
 use Rattle.command.specs.declared.Refusal.{Refusal}
@@ -19,7 +19,7 @@ use Rattle.parser_part.specs.declared.Next.{Next}
 use Rattle.parser.proofs.All.{less-left}
 use Rattle.list_step.specs.Step.{Role, time, change, other, role_of}
 use Rattle.listing.specs.Listing.{since_after, Entry, rows_in, list_in}
-use Rattle.change.specs.Rows.{change_at, words_of, filled}
+use Rattle.change.specs.Rows.{words_of}
 use Rattle.change.proofs.Table.{all-length, row-at}
 use Rattle.listing.specs.declared.Ended.{Ended}
 use Rattle.change.specs.declared.Change.{Change}

@@ -8,7 +8,6 @@ use borrow.Author.Tests.{eqb-false, ltb-true}
 use lib.Dec.{eqb, leb, ltb}
 use lib.ListN.{length, get_or}
 use Rattle.text.proofs.Lists.{by-test, both}
-use Rattle.scope.specs.declared.ReferenceIndex.{ReferenceIndex}
 use Rattle.command.specs.Meaning.{meaning}
 use Rattle.command.specs.declared.Command.{Command}
 use Rattle.token.specs.declared.Cursor.{Cursor}
@@ -22,7 +21,6 @@ use Rattle.record.specs.declared.RecordWords.{RecordWords}
 use Rattle.record.specs.declared.Recorded.{Recorded}
 use Rattle.record.proofs.ByKind.{by_kind}
 use Rattle.record.proofs.Uses.{used}
-use Rattle.scope.specs.Index.{SizedIndex}
 use Rattle.write.specs.Run.{Sized}
 use Rattle.write_header.proofs.Takes.{AreWords, word_at}
 use Rattle.write_header.proofs.Takes as takes

@@ -1,10 +1,9 @@
 -- A listing in the words of the demand: the commands that are read from a cursor on, and which of them are changes of a code.
-use Rattle.std.specs.Prelude.{ℕ, zero, suc, ◌+◌, ◌*◌, ◌≡◌, Bool, false, cond, ◌||◌, List, [], ◌∷◌, ◌++◌, eqb, leb, drop}
+use Rattle.std.specs.Prelude.{ℕ, zero, suc, ◌+◌, ◌*◌, ◌≡◌, Bool, false, cond, List, [], ◌∷◌, ◌++◌, eqb, drop}
 use Rattle.text.specs.declared.Text.{Text}
 use Rattle.idcode.specs.declared.IdCode.{IdCode}
 use Rattle.command.specs.Refusals.{number_of}
 use Rattle.command.specs.declared.Command.{Command}
-use Rattle.command.specs.declared.Refusal.{Refusal}
 use Rattle.token.specs.Read.{bit}
 use Rattle.token.specs.declared.Cursor.{Cursor}
 use Rattle.parser.specs.Next.{next_from}

@@ -1,8 +1,8 @@
 -- The header of a dump: its rows and texts are the reader's own, so that writing them is refused by neither 25 nor 23; and where its
 -- reading stops. Assumes nothing.
 use Prim.Native.Nat.{ℕ, ◌+◌, ◌≤◌}
-use mathlib.Core.Path.{◌≡◌, refl, sym, ap, ◌∙◌}
-use mathlib.Core.Bool.{Bool, true, false, not, ◌||◌}
+use mathlib.Core.Path.{◌≡◌, refl}
+use mathlib.Core.Bool.{false}
 use mathlib.Core.List.{List, [], ◌∷◌}
 use native.Mathlib.Omega.{arith}
 use borrow.Author.Tests.{le-leb}
@@ -14,11 +14,10 @@ use Rattle.header.specs.declared.KeptText.{KeptText}
 use Rattle.header.proofs.Good.{header-good}
 use Rattle.header.proofs.Kept.{TextIn, KeptIn, header-texts, header-kept, header-back}
 use Rattle.lines.specs.Lines.{taken as input_limit}
-use Rattle.parser.specs.All.{Commands, command, stop, finish, commands}
-use Rattle.rows.specs.Good.{is_good_table}
-use Rattle.rows.specs.Rows.{filled, rows_of}
+use Rattle.parser.specs.All.{Commands, command, stop, finish}
+use Rattle.rows.specs.Rows.{filled}
 use Rattle.rows.specs.declared.Row.{Row}
-use Rattle.text.specs.Texts.{limit, is_within, too_long}
+use Rattle.text.specs.Texts.{limit, too_long}
 use Rattle.text.proofs.Each.{Each}
 use Rattle.token.specs.Read.{Valid}
 use Rattle.token.specs.declared.Cursor.{Cursor}

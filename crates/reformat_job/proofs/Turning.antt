@@ -4,22 +4,21 @@ use mathlib.Core.Path.{◌≡◌, refl, sym, ap, subst, ◌∙◌}
 use mathlib.Core.Bool.{Bool, true, false, cond}
 use mathlib.Core.List.{List, [], ◌∷◌, ◌++◌, append-nil}
 use native.Mathlib.Omega.{arith}
-use borrow.Author.Tests.{le-leb, ltb-false, eqb-true, eqb-false}
-use lib.Dec.{eqb, leb, ltb}
+use borrow.Author.Tests.{le-leb, ltb-false, eqb-true}
+use lib.Dec.{eqb, ltb}
 use lib.ListN.{length, length-append}
 use Rattle.command.specs.Meaning.{Meaning}
 use Rattle.command.specs.Refusals.{number_of}
 use Rattle.command.specs.declared.Refusal.{Refusal}
 use Rattle.header.specs.Header.{Outcome as Heading, header_of, nothing}
 use Rattle.header.specs.declared.Ended.{Ended as HeaderEnded}
-use Rattle.lines.specs.Lines.{taken as input_limit, header_rows, long_line, refused_line}
+use Rattle.lines.specs.Lines.{taken as input_limit, header_rows, refused_line}
 use Rattle.number.specs.Decimal.{decimal_of}
 use Rattle.number.proofs.Writing.{short}
 use Rattle.parser.specs.All.{commands}
 use Rattle.parser.specs.Next.{fresh as fresh_cursor}
 use Rattle.rewrite.specs.Rewrite.{Outcome, rewritten}
 use Rattle.rewrite.specs.declared.Ended.{Ended}
-use Rattle.text.specs.Texts.{limit}
 use Rattle.text.proofs.Lists.{by-test}
 use Rattle.token.specs.Read.{Valid}
 use Rattle.token.specs.declared.Cursor.{Cursor}

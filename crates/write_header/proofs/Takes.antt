@@ -27,7 +27,7 @@ use Rattle.write.specs.Layout.{layout, writable, state_after}
 use Rattle.scope.specs.Index.{SizedIndex}
 use Rattle.write.specs.Run.{layouts, states_after, taken, Sized, AllSized}
 use Rattle.write.specs.declared.Writer.{Writer}
-use Rattle.write_header.specs.Meanings.{upscopes, remark_of, timescale_of, var_meaning, row_meanings, header_meanings}
+use Rattle.write_header.specs.Meanings.{remark_of, timescale_of, var_meaning, row_meanings, header_meanings}
 use Rattle.write_header.specs.Written.{Outcome, poured, misplaced, header_call}
 use Rattle.write_header.specs.declared.HeaderWritten.{HeaderWritten}
 use Rattle.rows.proofs.Peeking.{row-cases}

@@ -1,5 +1,5 @@
 -- Goals of `fast::eight` that the search leaves.
-use Rattle.std.proofs.Common.{rules, eqb-true}
+use Rattle.std.proofs.Common.{eqb-true}
 use Rattle.text.proofs.Counting.{eight-counted}
 use Rattle.fast.proofs.Short.{Digit}
 use Rattle.fast.proofs.eight.Goals as goal

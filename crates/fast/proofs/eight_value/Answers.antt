@@ -1,5 +1,5 @@
 -- Goals of `fast::eight_value` that the search leaves.
-use Rattle.std.proofs.Common.{ℕ, ◌+◌, arith, rules}
+use Rattle.std.proofs.Common.{ℕ, ◌+◌, arith}
 use Rattle.fast.proofs.Short.{in_pairs, Makes, eight-makes}
 use Rattle.fast.proofs.eight_value.Goals as goal
 use Rattle.fast.proofs.eight_value.Goals.{After-wide-8}

@@ -1,6 +1,5 @@
 -- Goals of `fast::parse_short` that the search leaves.
 use Rattle.fast.proofs.Hits.{digit_value, hash-kind}
-use Rattle.std.proofs.Common.{rules}
 use Rattle.fast.proofs.parse_short.Goals as goal
 
 pub short_scalar-requires : goal.short_scalar-requires

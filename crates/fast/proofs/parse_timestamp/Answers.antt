@@ -1,5 +1,5 @@
 -- Goals of `fast::parse_timestamp` that the search leaves.
-use Rattle.std.proofs.Common.{◌+◌, arith, rules}
+use Rattle.std.proofs.Common.{◌+◌, arith}
 use Rattle.parser_part.specs.FastWord.{FastNumber}
 use Rattle.parser_part.specs.declared.word.FastWord.TheVariants.{Hit}
 use Rattle.fast.proofs.Hits.{reads-time}

@@ -1,5 +1,5 @@
 -- Goals of `fast::parse_vector` that the search leaves.
-use Rattle.std.proofs.Common.{◌+◌, rules}
+use Rattle.std.proofs.Common.{◌+◌}
 use Rattle.parser_part.specs.FastWord.{FastId}
 use Rattle.parser_part.specs.declared.word.FastWord.TheVariants.{Hit}
 use Rattle.fast.proofs.Hits.{reads-vector}

@@ -1,5 +1,5 @@
 -- Goals of `fast::short_scalar` that the search leaves.
-use Rattle.std.proofs.Common.{arith, rules}
+use Rattle.std.proofs.Common.{arith}
 use Rattle.fast.proofs.Short.{scalar-one}
 use Rattle.fast.proofs.short_scalar.Goals as goal
 

@@ -1,5 +1,5 @@
 -- Goals of `fast::short_time` that the search leaves.
-use Rattle.std.proofs.Common.{arith, rules}
+use Rattle.std.proofs.Common.{arith}
 use Rattle.fast.proofs.Short.{time-eight}
 use Rattle.fast.proofs.short_time.Goals as goal
 

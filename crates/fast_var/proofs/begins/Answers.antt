@@ -1,5 +1,5 @@
 -- Goals of `fast_var::begins` that the search leaves.
-use Rattle.std.proofs.Common.{sym, ◌∙◌, true≢false, rules, eqb-true}
+use Rattle.std.proofs.Common.{sym, ◌∙◌, true≢false, eqb-true}
 use mathlib.Core.Bool.{false≢true}
 use Rattle.fast_var.proofs.Places.{var-here}
 use Rattle.fast_var.proofs.begins.Goals as goal

@@ -1,6 +1,6 @@
 -- Goals of `fast_var::closed` that the search leaves.
 use mathlib.Core.Bool.{false≢true}
-use Rattle.std.proofs.Common.{rules, eqb-true}
+use Rattle.std.proofs.Common.{eqb-true}
 use Rattle.fast_var.proofs.closed.Goals as goal
 
 pub returns-then-input-at : goal.returns-then-input-at

@@ -1,5 +1,5 @@
 -- Goals of `fast_var::coded` that the search leaves.
-use Rattle.std.proofs.Common.{arith, rules}
+use Rattle.std.proofs.Common.{arith}
 use Rattle.parser_part.specs.FastWord.{FastId}
 use Rattle.parser_part.specs.declared.word.FastWord.TheVariants.{Hit}
 use Rattle.fast_var.proofs.Definitions.{goes-code}

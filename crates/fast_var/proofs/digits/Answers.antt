@@ -1,6 +1,6 @@
 -- Goals of `fast_var::digits` that the search leaves.
-use Rattle.std.proofs.Common.{◌-◌, length, arith, rules, ltb-false}
-use Rattle.fast_var.proofs.Indexes.{Counted, counted_none, counted-small, counted-more, counted-end}
+use Rattle.std.proofs.Common.{arith, ltb-false}
+use Rattle.fast_var.proofs.Indexes.{counted_none, counted-small, counted-more, counted-end}
 use Rattle.fast_var.proofs.digits.Goals as goal
 
 pub loop-i-init : goal.loop-i-init

@@ -1,6 +1,6 @@
 -- What the loops of `fast_var::digits` keep.
-use Rattle.std.proofs.Common.{◌-◌, length, arith, rules, ltb-false}
-use Rattle.fast_var.proofs.Indexes.{Counted, counted_none, counted-small, counted-more, counted-end}
+use Rattle.std.proofs.Common.{◌-◌, length}
+use Rattle.fast_var.proofs.Indexes.{Counted}
 use Rattle.fast_var.proofs.digits.Given as goal
 
 abbrev pub invariant-loop-i : goal.invariant-loop-i

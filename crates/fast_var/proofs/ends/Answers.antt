@@ -1,5 +1,5 @@
 -- Goals of `fast_var::ends` that the search leaves.
-use Rattle.std.proofs.Common.{sym, ◌∙◌, true≢false, rules}
+use Rattle.std.proofs.Common.{sym, ◌∙◌, true≢false}
 use mathlib.Core.Bool.{false≢true}
 use Rattle.fast_var.proofs.Places.{end-here}
 use Rattle.fast_var.proofs.ends.Goals as goal

@@ -1,5 +1,5 @@
 -- Goals of `fast_var::four` that the search leaves.
-use Rattle.std.proofs.Common.{sym, ◌∙◌, rules, eqb-true}
+use Rattle.std.proofs.Common.{sym, ◌∙◌, eqb-true}
 use Rattle.fast_var.proofs.Places.{quad-same}
 use Rattle.fast_var.proofs.four.Goals as goal
 

@@ -1,6 +1,5 @@
 -- Goals of `fast_var::index_at` that the search leaves.
-use Rattle.std.proofs.Common.{◌+◌, arith, rules, eqb-true}
-use borrow.Author.Tests.{not-false}
+use Rattle.std.proofs.Common.{◌+◌, arith}
 use Rattle.parser_part.specs.declared.word.FastWord.TheVariants.{Hit}
 use Rattle.fast_var.specs.FastVar.{Digits}
 use Rattle.fast_var.proofs.Indexes.{number_fits, bit-here}

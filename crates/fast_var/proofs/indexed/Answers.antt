@@ -1,5 +1,5 @@
 -- Goals of `fast_var::indexed` that the search leaves.
-use Rattle.std.proofs.Common.{arith, rules}
+use Rattle.std.proofs.Common.{arith}
 use Rattle.fast_var.specs.FastVar.{IndexAt}
 use Rattle.fast_var.specs.declared.FastIndex.TheVariants.{Hit}
 use Rattle.fast_var.proofs.Definitions.{ends-index}

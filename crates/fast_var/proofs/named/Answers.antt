@@ -1,5 +1,5 @@
 -- Goals of `fast_var::named` that the search leaves.
-use Rattle.std.proofs.Common.{arith, rules}
+use Rattle.std.proofs.Common.{arith}
 use Rattle.fast_var.proofs.Definitions.{goes-name, ends-name}
 use Rattle.fast_var.proofs.named.Goals as goal
 

@@ -1,6 +1,5 @@
 -- Goals of `fast_var::parse_var` that the search leaves.
-use Rattle.std.proofs.Common.{arith, rules}
-use borrow.Author.Tests.{not-false}
+use Rattle.std.proofs.Common.{arith}
 use Rattle.fast_var.specs.FastVar.{Begins, HitsType}
 use Rattle.fast_var.specs.declared.FastType.TheVariants.{Hit}
 use Rattle.fast_var.proofs.Definitions.{hits}

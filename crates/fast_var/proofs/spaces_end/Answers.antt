@@ -1,6 +1,5 @@
 -- Goals of `fast_var::spaces_end` that the search leaves.
-use Rattle.std.proofs.Common.{◌-◌, length, arith, rules}
-use Rattle.fast_var.specs.FastVar.{Gap}
+use Rattle.std.proofs.Common.{arith}
 use Rattle.fast_var.proofs.Places.{gap_more}
 use Rattle.fast_var.proofs.spaces_end.Goals as goal
 

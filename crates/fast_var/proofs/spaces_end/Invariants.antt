@@ -1,7 +1,6 @@
 -- What the loops of `fast_var::spaces_end` keep.
-use Rattle.std.proofs.Common.{◌-◌, length, arith, rules}
+use Rattle.std.proofs.Common.{◌-◌, length}
 use Rattle.fast_var.specs.FastVar.{Gap}
-use Rattle.fast_var.proofs.Places.{gap_more}
 use Rattle.fast_var.proofs.spaces_end.Given as goal
 
 abbrev pub invariant-loop-i : goal.invariant-loop-i

@@ -1,5 +1,5 @@
 -- Goals of `fast_var::type_at` that the search leaves.
-use Rattle.std.proofs.Common.{◌≡◌, ℕ, ◌+◌, Bool, true, false, cond, List, sym, refl, ap, ◌∙◌, arith, rules, ltb-false}
+use Rattle.std.proofs.Common.{◌≡◌, ℕ, ◌+◌, Bool, true, false, cond, List, sym, refl, ap, ◌∙◌, arith, ltb-false}
 use Rattle.scope.specs.Types.{parse_var_type}
 use Rattle.scope.specs.declared.VarType.{VarType}
 use Rattle.scope.proofs.Types.{var-names}

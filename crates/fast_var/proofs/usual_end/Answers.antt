@@ -1,5 +1,4 @@
 -- Goals of `fast_var::usual_end` that the search leaves.
-use Rattle.std.proofs.Common.{rules}
 use Rattle.fast_var.proofs.usual_end.Goals as goal
 
 pub returns-then-wire : goal.returns-then-wire

@@ -1,5 +1,5 @@
 -- Goals of `fast_var::word_end` that the search leaves.
-use Rattle.std.proofs.Common.{◌≡◌, ℕ, ◌+◌, ◌-◌, ◌<◌, ◌≤◌, List, length, get_or, arith, rules}
+use Rattle.std.proofs.Common.{◌≡◌, ℕ, ◌+◌, ◌-◌, ◌<◌, ◌≤◌, List, length, get_or, arith}
 use Rattle.text.specs.Plain.{Plain}
 use Rattle.text.proofs.Printable.{plain-join}
 use Rattle.fast_var.specs.FastVar.{Worded}

@@ -1,6 +1,6 @@
 -- Goals of `fast_var::word_end_plain` that the search leaves.
-use Rattle.std.proofs.Common.{ℕ, ◌-◌, List, [], length, arith, rules, ltb-false}
-use Rattle.fast_var.proofs.Places.{Stands, stands-none, stands-more, stands-two, worded}
+use Rattle.std.proofs.Common.{[], arith}
+use Rattle.fast_var.proofs.Places.{stands-none, stands-more, stands-two, worded}
 use Rattle.fast_var.proofs.word_end_plain.Goals as goal
 
 pub returns-then-input-at : goal.returns-then-input-at

@@ -1,6 +1,6 @@
 -- What the loops of `fast_var::word_end_plain` keep.
-use Rattle.std.proofs.Common.{ℕ, ◌-◌, List, [], length, arith, rules, ltb-false}
-use Rattle.fast_var.proofs.Places.{Stands, stands-none, stands-more, stands-two, worded}
+use Rattle.std.proofs.Common.{ℕ, ◌-◌, List, length}
+use Rattle.fast_var.proofs.Places.{Stands}
 use Rattle.fast_var.proofs.word_end_plain.Given as goal
 
 abbrev pub invariant-loop-i : goal.invariant-loop-i

@@ -1,9 +1,8 @@
 -- Goals of `header::parse_scope` that the search leaves.
-use Prim.Native.Nat.{ℕ, ◌-◌, ◌<◌}
+use Prim.Native.Nat.{ℕ}
 use mathlib.Core.Path.{◌≡◌, refl, ◌∙◌}
 use native.Mathlib.Omega.{arith}
 use lib.ListN.{length}
-use borrow.Author.Rules.{rules}
 use Rattle.header.proofs.Levels.{Reached, reached-start, reached-vars, reached-leaf, reached-scope, ends-other, ends-refused, ends-within}
 use Rattle.header.proofs.+parse_scope.Goals as goal
 use Rattle.header.proofs.+parse_scope.Goals.{After-take_vars-vars}

@@ -1,10 +1,8 @@
 -- What the loop of `header::parse_scope` keeps, and why the calls end.
-use Prim.Native.Nat.{ℕ, ◌-◌, ◌<◌}
-use mathlib.Core.Path.{◌≡◌, refl, ◌∙◌}
-use native.Mathlib.Omega.{arith}
+use Prim.Native.Nat.{◌-◌}
+use mathlib.Core.Path.{◌≡◌}
 use lib.ListN.{length}
-use borrow.Author.Rules.{rules}
-use Rattle.header.proofs.Levels.{Reached, reached-start, reached-vars, reached-leaf, reached-scope, ends-other, ends-refused, ends-within}
+use Rattle.header.proofs.Levels.{Reached}
 use Rattle.header.proofs.+parse_scope.Given as goal
 
 abbrev pub invariant-loop-d : goal.invariant-loop-d

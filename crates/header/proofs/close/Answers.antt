@@ -1,7 +1,6 @@
 -- Goals of `header::close` that the search leaves.
 use Rattle.header.proofs.Duties.{close-rest}
 use Rattle.header.specs.Level.{close_of, duty}
-use borrow.Author.Rules.{rules}
 use borrow.Enum.Refused.{opened}
 use Rattle.header.proofs.close.Goals as goal
 

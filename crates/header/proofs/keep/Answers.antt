@@ -1,7 +1,6 @@
 -- Goals of `header::keep` that the search leaves.
 use Rattle.header.proofs.Duties.{keep-rest}
 use Rattle.header.specs.Level.{keep_of, duty}
-use borrow.Author.Rules.{rules}
 use borrow.Enum.Refused.{opened}
 use Rattle.header.proofs.keep.Goals as goal
 

@@ -1,15 +1,11 @@
 -- Goals of `header::read_header` that the search leaves.
-use Prim.Native.Nat.{◌-◌, ◌*◌, ◌≤◌}
-use mathlib.Core.Path.{◌≡◌, refl, ◌∙◌}
+use mathlib.Core.Path.{refl, ◌∙◌}
 use mathlib.Core.List.{[]}
 use native.Mathlib.Omega.{arith}
-use lib.ListN.{length}
 use Rattle.parser.proofs.All.{less-left}
 use Rattle.header.specs.Header.{header_of}
-use Rattle.header.specs.Level.{after, rest}
 use Rattle.header.proofs.Levels.{keep-here}
 use Rattle.header.proofs.Table.{settled}
-use borrow.Author.Rules.{rules}
 use Rattle.header.proofs.read_header.Goals as goal
 
 pub loop-d-init : goal.loop-d-init

@@ -1,15 +1,10 @@
 -- What the loops of `header::read_header` keep.
 use Prim.Native.Nat.{◌-◌, ◌*◌, ◌≤◌}
-use mathlib.Core.Path.{◌≡◌, refl, ◌∙◌}
+use mathlib.Core.Path.{◌≡◌}
 use mathlib.Core.List.{[]}
-use native.Mathlib.Omega.{arith}
 use lib.ListN.{length}
-use Rattle.parser.proofs.All.{less-left}
 use Rattle.header.specs.Header.{header_of}
 use Rattle.header.specs.Level.{after, rest}
-use Rattle.header.proofs.Levels.{keep-here}
-use Rattle.header.proofs.Table.{settled}
-use borrow.Author.Rules.{rules}
 use Rattle.header.proofs.read_header.Given as goal
 
 abbrev pub invariant-loop-d : goal.invariant-loop-d

@@ -3,7 +3,6 @@ use mathlib.Core.Path.{refl}
 use borrow.Author.Tests.{eq-eqb, ne_eqb, lt-ltb, le-ltb}
 use Rattle.header.specs.Level.{item_of, table_of, duty}
 use Rattle.header.proofs.Duties.{item-rest}
-use borrow.Author.Rules.{rules}
 use borrow.Enum.Refused.{opened}
 use Rattle.header.proofs.store_item.Goals as goal
 

@@ -1,7 +1,6 @@
 -- Goals of `header::take_item` that the search leaves.
 use mathlib.Core.Path.{sym, ◌∙◌}
 use Rattle.header.proofs.Levels.{took, rest-refused, rest-done}
-use borrow.Author.Rules.{rules}
 use Rattle.header.proofs.take_item.Goals as goal
 
 pub returns-in-Command : goal.returns-in-Command

@@ -1,16 +1,10 @@
 -- Goals of `header::take_vars` that the search leaves.
-use Prim.Native.Nat.{◌-◌}
-use mathlib.Core.Path.{◌≡◌, refl, sym, ◌∙◌}
+use mathlib.Core.Path.{refl, sym, ◌∙◌}
 use native.Mathlib.Omega.{arith}
-use borrow.Author.Tests.{not-false}
-use lib.ListN.{length}
 use Rattle.fast.specs.Fast.{Reads}
 use Rattle.parser_part.specs.Plan.{var_def}
 use Rattle.parser.proofs.Ahead.{good-valid, command-past}
-use Rattle.token.specs.Read.{Valid}
-use Rattle.header.specs.Level.{Passes}
 use Rattle.header.proofs.Levels.{passes_none, passes-more}
-use borrow.Author.Rules.{rules}
 use Rattle.header.proofs.take_vars.Goals as goal
 use Rattle.header.proofs.take_vars.Goals.{In-Hit}
 

@@ -1,7 +1,6 @@
 -- Goals of `lent_rows::read_flat` that the search leaves.
 use mathlib.Core.Path.{ap, sym, ◌∙◌}
 use native.Mathlib.Omega.{arith}
-use borrow.Author.Rules.{rules}
 use Prim.Native.Nat.{ℕ, ◌*◌}
 use mathlib.Core.List.{List, ◌++◌}
 use lib.ListN.{drop}

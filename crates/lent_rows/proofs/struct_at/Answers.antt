@@ -1,6 +1,5 @@
 -- Goals of `lent_rows::struct_at` that the search leaves.
 use mathlib.Core.Path.{ap, sym, ◌∙◌}
-use borrow.Author.Rules.{rules}
 use Rattle.lent_rows.specs.Rows.{struct_of}
 use Rattle.lent_rows.proofs.struct_at.Goals as goal
 

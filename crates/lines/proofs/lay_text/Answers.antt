@@ -1,7 +1,6 @@
 -- Goals of `lines::lay_text` that the search leaves.
 use native.Mathlib.Nat.{zero-add}
 use native.Mathlib.Omega.{arith}
-use borrow.Author.Rules.{rules}
 use Rattle.lines.proofs.Laying.{laid_none, room, laid}
 use Rattle.lines.proofs.lay_text.Goals as goal
 

@@ -1,6 +1,5 @@
 -- Goals of `lines::lay_wide` that the search leaves.
 use native.Mathlib.Omega.{arith}
-use borrow.Author.Rules.{rules}
 use Rattle.lines.proofs.Laying.{wide, wide-length, laid_none, room, laid}
 use Rattle.lines.proofs.lay_wide.Goals as goal
 

@@ -2,7 +2,6 @@
 use mathlib.Core.Path.{◌≡◌, refl}
 use mathlib.Core.List.{List}
 use Prim.Native.Nat.{ℕ}
-use borrow.Author.Rules.{rules}
 use Rattle.emit.proofs.Storing.{row-text}
 use Rattle.change.specs.declared.ChangeKind.{ChangeKind}
 use Rattle.number.specs.Decimal.{decimal_of}

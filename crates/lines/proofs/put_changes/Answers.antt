@@ -5,7 +5,7 @@ use native.Mathlib.Omega.{arith}
 use borrow.Author.Rules.{rules}
 use borrow.Rule.Slice.PartMut.{put_mid}
 use lib.ListN.{length}
-use Rattle.lines.proofs.Printing.{Going, going_start, going_end, going-full, going_more}
+use Rattle.lines.proofs.Printing.{going_start, going_end, going-full, going_more}
 use Rattle.lines.proofs.put_changes.Goals as goal
 
 pub loop-next-init : goal.loop-next-init

@@ -1,10 +1,8 @@
 -- What the loops of `lines::put_changes` keep.
 use Prim.Native.Nat.{◌-◌}
-use mathlib.Core.Path.{◌≡◌, refl}
-use native.Mathlib.Omega.{arith}
-use borrow.Author.Rules.{rules}
+use mathlib.Core.Path.{◌≡◌}
 use lib.ListN.{length}
-use Rattle.lines.proofs.Printing.{Going, going_start, going_end, going-full, going_more}
+use Rattle.lines.proofs.Printing.{Going}
 use Rattle.lines.proofs.put_changes.Given as goal
 
 abbrev pub invariant-loop-next : goal.invariant-loop-next

@@ -1,5 +1,4 @@
 -- Goals of `lines::put_refused` that the search leaves.
-use borrow.Author.Rules.{rules}
 use Rattle.emit.proofs.Storing.{row-text}
 use Rattle.number.specs.Decimal.{decimal_of}
 use Rattle.lines.proofs.put_refused.Goals as goal

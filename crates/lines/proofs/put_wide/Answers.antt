@@ -2,7 +2,6 @@
 use Prim.Native.Nat.{ℕ}
 use mathlib.Core.List.{[], ◌∷◌, map, append_assoc}
 use native.Mathlib.Omega.{arith}
-use borrow.Author.Rules.{rules}
 use lib.ListN.{length-map, length-replicate}
 use Rattle.emit.proofs.Storing.{run}
 use Rattle.text.specs.Bytes.{bytes}

@@ -1,9 +1,7 @@
 -- Goals of `lines::put_zeros` that the search leaves.
-use Prim.Native.Nat.{◌+◌, ◌-◌, ◌≤◌}
 use mathlib.Core.Path.{◌≡◌, refl, sym, ap, ◌∙◌}
 use native.Mathlib.Omega.{arith}
-use borrow.Author.Rules.{rules}
-use lib.ListN.{length, take, length-set, length-replicate, get_or-replicate}
+use lib.ListN.{length, length-set, length-replicate, get_or-replicate}
 use lib.Seq.{take_all}
 use Rattle.emit.specs.Put.{stored}
 use Rattle.emit.proofs.Storing.{stored-none, stored-step}

@@ -1,12 +1,8 @@
 -- What the loops of `lines::put_zeros` keep.
 use Prim.Native.Nat.{◌+◌, ◌-◌, ◌≤◌}
-use mathlib.Core.Path.{◌≡◌, refl, sym, ap, ◌∙◌}
-use native.Mathlib.Omega.{arith}
-use borrow.Author.Rules.{rules}
-use lib.ListN.{length, take, length-set, length-replicate, get_or-replicate}
-use lib.Seq.{take_all}
+use mathlib.Core.Path.{◌≡◌}
+use lib.ListN.{length, take}
 use Rattle.emit.specs.Put.{stored}
-use Rattle.emit.proofs.Storing.{stored-none, stored-step}
 use Rattle.value.specs.Values.{filled_with}
 use Rattle.value.specs.declared.Value.{Value}
 use Rattle.lines.proofs.put_zeros.Given as goal

@@ -1,5 +1,4 @@
 -- Goals of `lines::time_text` that the search leaves.
-use borrow.Author.Rules.{rules}
 use Rattle.lines.proofs.time_text.Goals as goal
 
 pub returns-in-None : goal.returns-in-None

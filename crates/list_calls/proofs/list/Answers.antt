@@ -1,5 +1,4 @@
 -- Goals of `list_calls::list` that the search leaves.
-use borrow.Author.Rules.{rules}
 use Rattle.list_calls.proofs.list.Goals as goal
 
 pub returns : goal.returns

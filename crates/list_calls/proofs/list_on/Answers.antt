@@ -1,9 +1,8 @@
 -- Goals of `list_calls::list_on` that the search leaves.
-use mathlib.Core.Path.{refl, sym, ◌∙◌}
+use mathlib.Core.Path.{sym, ◌∙◌}
 use Rattle.list_calls.specs.Listings.{list_on_call}
 use Rattle.vcd_state.proofs.Taken.{cursor-four}
 use Rattle.change.proofs.Table.{since-two}
-use borrow.Author.Rules.{rules}
 use Rattle.list_calls.proofs.list_on.Goals as goal
 
 pub put_cursor-requires : goal.put_cursor-requires

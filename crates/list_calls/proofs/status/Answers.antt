@@ -1,5 +1,4 @@
 -- Goals of `list_calls::status` that the search leaves.
-use borrow.Author.Rules.{rules}
 use Rattle.list_calls.proofs.status.Goals as goal
 
 pub returns-in-Refused : goal.returns-in-Refused

@@ -1,5 +1,4 @@
 -- Goals of `list_job::after_listing` that the search leaves.
-use borrow.Author.Rules.{rules}
 use Rattle.list_job.proofs.after_listing.Goals as goal
 
 pub returns : goal.returns

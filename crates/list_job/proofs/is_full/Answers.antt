@@ -1,5 +1,4 @@
 -- Goals of `list_job::is_full` that the search leaves.
-use borrow.Author.Rules.{rules}
 use Rattle.list_job.proofs.is_full.Goals as goal
 
 pub returns : goal.returns

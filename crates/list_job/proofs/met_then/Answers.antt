@@ -1,6 +1,5 @@
 -- Goals of `list_job::met_then` that the search leaves.
 use Rattle.list_job.proofs.Putting.{then-full, then-other}
-use borrow.Author.Rules.{rules}
 use Rattle.list_job.proofs.met_then.Goals as goal
 
 pub returns-then-is_full : goal.returns-then-is_full

@@ -1,6 +1,5 @@
 -- Goals of `list_job::put_end` that the search leaves.
 use Rattle.list_job.proofs.Putting.{end-full, end_whole, end-other}
-use borrow.Author.Rules.{rules}
 use Rattle.list_job.proofs.put_end.Goals as goal
 
 pub returns-then-is_full : goal.returns-then-is_full

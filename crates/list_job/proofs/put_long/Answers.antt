@@ -1,7 +1,6 @@
 -- Goals of `list_job::put_long` that the search leaves.
 use Rattle.lines.specs.Lines.{long_line}
 use Rattle.list_job.proofs.Putting.{puts-line}
-use borrow.Author.Rules.{rules}
 use Rattle.list_job.proofs.put_long.Goals as goal
 
 pub returns : goal.returns

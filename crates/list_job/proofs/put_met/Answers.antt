@@ -1,6 +1,5 @@
 -- Goals of `list_job::put_met` that the search leaves.
 use Rattle.list_job.proofs.Putting.{met-none, met-line}
-use borrow.Author.Rules.{rules}
 use Rattle.list_job.proofs.put_met.Goals as goal
 
 pub returns-in-Nothing : goal.returns-in-Nothing

@@ -1,6 +1,5 @@
 -- Goals of `list_job::take_turn` that the search leaves.
 use mathlib.Core.Path.{refl}
-use borrow.Author.Rules.{rules}
 use Rattle.list_job.proofs.take_turn.Goals as goal
 
 pub returns-in-Begin : goal.returns-in-Begin

@@ -1,6 +1,5 @@
 -- Goals of `list_job::turn_begin` that the search leaves.
 use Rattle.list_job.proofs.Putting.{begin-long, begin-whole, begin-refused}
-use borrow.Author.Rules.{rules}
 use Rattle.list_job.proofs.turn_begin.Goals as goal
 
 pub returns-then-input-gt-TAKEN : goal.returns-then-input-gt-TAKEN

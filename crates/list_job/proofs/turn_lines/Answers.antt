@@ -1,6 +1,5 @@
 -- Goals of `list_job::turn_lines` that the search leaves.
 use Rattle.list_job.proofs.Putting.{lines-stop, lines-some, lines_end}
-use borrow.Author.Rules.{rules}
 use Rattle.list_job.proofs.turn_lines.Goals as goal
 
 pub returns-then-after-next : goal.returns-then-after-next

@@ -1,7 +1,6 @@
 -- Goals of `list_job::turn_row` that the search leaves.
 use mathlib.Core.Path.{refl}
 use Rattle.list_job.proofs.Putting.{row-end, row-var, row-pass}
-use borrow.Author.Rules.{rules}
 use Rattle.list_job.proofs.turn_row.Goals as goal
 
 pub returns-then-count-at : goal.returns-then-count-at

@@ -1,6 +1,5 @@
 -- Goals of `list_job::turn_var` that the search leaves.
 use Rattle.list_job.proofs.Putting.{var-listed}
-use borrow.Author.Rules.{rules}
 use Rattle.list_job.proofs.turn_var.Goals as goal
 
 pub returns : goal.returns

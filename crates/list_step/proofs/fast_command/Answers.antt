@@ -2,7 +2,6 @@
 use native.Mathlib.Omega.{arith}
 use Rattle.text.proofs.Lists.{take_rest}
 use Rattle.fast.proofs.Hits.{letter-value, digit_value, hash-kind, vector-kind}
-use borrow.Author.Rules.{rules}
 use Rattle.list_step.proofs.fast_command.Goals as goal
 
 pub parse_scalar-requires : goal.parse_scalar-requires

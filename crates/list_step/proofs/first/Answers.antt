@@ -1,5 +1,4 @@
 -- Goals of `list_step::first` that the search leaves.
-use borrow.Author.Rules.{rules}
 use Rattle.list_step.proofs.first.Goals as goal
 
 pub returns : goal.returns

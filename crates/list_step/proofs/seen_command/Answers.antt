@@ -1,5 +1,4 @@
 -- Goals of `list_step::seen_command` that the search leaves.
-use borrow.Author.Rules.{rules}
 use Rattle.list_step.proofs.seen_command.Goals as goal
 
 pub returns-in-Timestamp : goal.returns-in-Timestamp

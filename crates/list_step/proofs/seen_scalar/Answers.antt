@@ -1,6 +1,5 @@
 -- Goals of `list_step::seen_scalar` that the search leaves.
 use borrow.Author.Tests.{eq-eqb, ne_eqb}
-use borrow.Author.Rules.{rules}
 use Rattle.list_step.proofs.seen_scalar.Goals as goal
 
 pub returns-then-i-code : goal.returns-then-i-code

@@ -5,7 +5,6 @@ use Rattle.text.proofs.Lists.{take_rest}
 use Rattle.fast.specs.Fast.{Hits}
 use Rattle.fast.specs.declared.Fast.TheVariants.{Time, Scalar, Vector}
 use Rattle.fast.proofs.Hits.{scalar-first}
-use borrow.Author.Rules.{rules}
 use Rattle.list_step.proofs.step_fast.Goals as goal
 use Rattle.list_step.proofs.step_fast.Goals.{In-Scalar, In-Time, In-Vector}
 

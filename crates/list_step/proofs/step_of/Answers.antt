@@ -1,5 +1,4 @@
 -- Goals of `list_step::step_of` that the search leaves.
-use borrow.Author.Rules.{rules}
 use Rattle.list_step.proofs.step_of.Goals as goal
 
 pub returns-in-Time : goal.returns-in-Time

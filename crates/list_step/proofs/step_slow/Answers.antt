@@ -1,6 +1,5 @@
 -- Goals of `list_step::step_slow` that the search leaves.
 use mathlib.Core.Path.{◌∙◌}
-use borrow.Author.Rules.{rules}
 use Rattle.list_step.proofs.step_slow.Goals as goal
 
 pub returns-in-Command : goal.returns-in-Command

@@ -1,10 +1,8 @@
 -- Goals of `listing::fast_run` that the search leaves.
-use Prim.Native.Nat.{◌-◌}
 use native.Mathlib.Omega.{arith}
 use Rattle.fast.specs.Fast.{Hits, Short}
 use Rattle.fast.specs.declared.Fast.TheVariants.{Time, Scalar}
-use Rattle.listing.proofs.Passing.{Running, running-start, running-asks, running-ends, running-time, running-other}
-use borrow.Author.Rules.{rules}
+use Rattle.listing.proofs.Passing.{running-start, running-asks, running-ends, running-time, running-other}
 use Rattle.listing.proofs.fast_run.Goals as goal
 use Rattle.listing.proofs.fast_run.Goals.{In-Scalar, In-Time, in-Time, in-Scalar+else-i-code}
 
@@ -64,12 +62,12 @@ loop-n-preserved c =
     let r = c.loop-n.invariant in
     let less = c.loop-n-test.true in
     (elim c.match-parse_short.branch [
-      in-Time w ↦
-        let h = rw w.in-Time.is at c.parse_short.ensures in
-        rw (w.cur-is, w.last-is, w.word_read-cur.ensures) (running-time _ _ _ _ _ _ _ _ _ r (omega (arith, less)) h.1 _ h.0)
+      | in-Time w ↦
+          let h = rw w.in-Time.is at c.parse_short.ensures in
+          rw (w.cur-is, w.last-is, w.word_read-cur.ensures) (running-time _ _ _ _ _ _ _ _ _ r (omega (arith, less)) h.1 _ h.0)
       | in-Scalar+else-i-code w ↦
-        let h = rw w.in-Scalar.is at c.parse_short.ensures in
-        rw (w.cur-is, w.last-is, w.word_read-cur-in-Scalar.ensures) (running-other _ _ _ _ _ _ _ _ _ r (omega (arith, less)) h.1 _ h.0 w.if-i-code.false)
+          let h = rw w.in-Scalar.is at c.parse_short.ensures in
+          rw (w.cur-is, w.last-is, w.word_read-cur-in-Scalar.ensures) (running-other _ _ _ _ _ _ _ _ _ r (omega (arith, less)) h.1 _ h.0 w.if-i-code.false)
     ])
 
 pub so_far-requires-2 : goal.so_far-requires-2

@@ -1,11 +1,6 @@
 -- What the loops of `listing::fast_run` keep.
 use Prim.Native.Nat.{◌-◌}
-use mathlib.Core.Logic.{⊎_elim}
-use native.Mathlib.Omega.{arith}
-use Rattle.fast.specs.Fast.{Hits, Short}
-use Rattle.fast.specs.declared.Fast.TheVariants.{Time, Scalar}
-use Rattle.listing.proofs.Passing.{Running, running-start, running-asks, running-ends, running-time, running-other}
-use borrow.Author.Rules.{rules}
+use Rattle.listing.proofs.Passing.{Running}
 use Rattle.listing.proofs.fast_run.Given as goal
 
 abbrev pub invariant-loop-n : goal.invariant-loop-n

@@ -1,16 +1,11 @@
 -- Goals of `listing::list_on` that the search leaves.
-use Prim.Native.Nat.{◌-◌}
 use mathlib.Core.Path.{◌≡◌, refl, sym, ◌∙◌}
 use native.Mathlib.Omega.{arith}
-use borrow.Author.Tests.{not-true, not-false}
-use lib.ListN.{length}
 use Rattle.parser.proofs.Ahead.{good-valid}
 use Rattle.parser.proofs.All.{less-left}
-use Rattle.token.specs.Read.{Valid}
 use Rattle.list_step.specs.declared.Step.{Step}
 use Rattle.list_step.proofs.Roles.{Saw, saw, read-valid, bad-next}
 use Rattle.listing.proofs.Listed.{Listed, listed_start, listed-length, passes-read, listed-passes, listed-change, listed-full, listed-refused, listed-done}
-use borrow.Author.Rules.{rules}
 use Rattle.listing.proofs.list_on.Goals as goal
 use Rattle.listing.proofs.list_on.Goals.{After-cur-1, After-step_fast}
 

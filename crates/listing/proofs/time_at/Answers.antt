@@ -2,7 +2,6 @@
 use Rattle.fast.specs.Fast.{Hits}
 use Rattle.fast.specs.declared.Fast.TheVariants.{Time}
 use Rattle.listing.proofs.Passing.{reads-there, reads-once}
-use borrow.Author.Rules.{rules}
 use Rattle.listing.proofs.time_at.Goals as goal
 use Rattle.listing.proofs.time_at.Goals.{In-Time}
 

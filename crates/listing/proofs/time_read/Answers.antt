@@ -6,7 +6,6 @@ use types.Run.{miss}
 use Rattle.fast.specs.Fast.{Reads}
 use Rattle.command.specs.declared.Command.TheVariants.{Timestamp}
 use Rattle.listing.proofs.Passing.{reads-there, reads-once}
-use borrow.Author.Rules.{rules}
 use borrow.Enum.Refused.{opened}
 use Rattle.listing.proofs.time_read.Goals as goal
 use Rattle.listing.proofs.time_read.Goals.{In-Command}

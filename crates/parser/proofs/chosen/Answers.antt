@@ -1,5 +1,4 @@
 -- Goals of `parser::chosen` that the search leaves.
-use borrow.Author.Rules.{rules}
 use Rattle.parser_part.specs.Plan.{run}
 use Rattle.parser.proofs.chosen.Goals as goal
 

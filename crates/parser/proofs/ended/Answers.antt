@@ -1,5 +1,4 @@
 -- Goals of `parser::ended` that the search leaves.
-use borrow.Author.Rules.{rules}
 use Rattle.parser.proofs.ended.Goals as goal
 
 pub returns-in-None : goal.returns-in-None

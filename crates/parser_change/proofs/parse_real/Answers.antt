@@ -2,7 +2,6 @@
 use mathlib.Core.Path.{sym, ◌∙◌}
 use Rattle.parser_part.proofs.Answers.{real-good, real-bad, on_real}
 use Rattle.parser_part.proofs.Arms.{word_next, word_on, word-off}
-use borrow.Author.Rules.{rules}
 use Rattle.parser_change.proofs.parse_real.Goals as goal
 
 pub real_id-requires : goal.real_id-requires

@@ -2,7 +2,6 @@
 use Rattle.command.specs.declared.Command.{Command}
 use Rattle.parser_part.specs.Plan.{answer, an_id}
 use Rattle.parser_part.proofs.Arms.{word_next, word_on, word-off}
-use borrow.Author.Rules.{rules}
 use Rattle.parser_change.proofs.parse_string.Goals as goal
 
 pub string_id-requires : goal.string_id-requires

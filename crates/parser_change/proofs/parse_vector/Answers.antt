@@ -2,7 +2,6 @@
 use Rattle.command.specs.declared.Command.{Command}
 use Rattle.parser_part.specs.Plan.{answer, an_id}
 use Rattle.parser_part.proofs.Arms.{token-next, token-on, token-off}
-use borrow.Author.Rules.{rules}
 use Rattle.parser_change.proofs.parse_vector.Goals as goal
 
 pub vector_id-requires : goal.vector_id-requires

@@ -2,7 +2,6 @@
 use Rattle.command.specs.declared.Command.{Command}
 use Rattle.parser_part.specs.Plan.{answer}
 use Rattle.parser_part.proofs.Arms.{answered, id-on, id-off}
-use borrow.Author.Rules.{rules}
 use Rattle.parser_change.proofs.slow_scalar.Goals as goal
 
 pub returns-in-Is : goal.returns-in-Is

@@ -4,7 +4,6 @@ use Rattle.command.specs.declared.Command.{Command}
 use Rattle.parser_part.specs.FastWord.{FastId}
 use Rattle.parser_part.specs.declared.word.FastWord.TheVariants.{Hit}
 use Rattle.parser_part.proofs.Hits.{id-hit}
-use borrow.Author.Rules.{rules}
 use Rattle.parser_change.proofs.vector_id.Goals as goal
 use Rattle.parser_change.proofs.vector_id.Goals.{In-Hit}
 

@@ -7,7 +7,6 @@ use lib.ListN.{length, get_or}
 use Rattle.text.specs.Bytes.{is_blank}
 use Rattle.token.proofs.Words.{values-here}
 use Rattle.parser_part.proofs.Hits.{ends-true}
-use borrow.Author.Rules.{rules}
 use Rattle.parser_change.proofs.vector_values.Goals as goal
 use Rattle.parser_change.proofs.vector_values.Goals.{Then-ends_values}
 

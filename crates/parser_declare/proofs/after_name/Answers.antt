@@ -1,7 +1,6 @@
 -- Goals of `parser_declare::after_name` that the search leaves.
 use mathlib.Core.Path.{sym, ◌∙◌}
 use Rattle.parser_declare.proofs.Declarations.{run-last}
-use borrow.Author.Rules.{rules}
 use Rattle.parser_declare.proofs.after_name.Goals as goal
 
 pub returns-then-starts_with : goal.returns-then-starts_with

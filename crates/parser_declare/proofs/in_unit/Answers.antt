@@ -1,6 +1,5 @@
 -- Goals of `parser_declare::in_unit` that the search leaves.
 use Rattle.parser_part.proofs.Arms.{refusing}
-use borrow.Author.Rules.{rules}
 use Rattle.parser_declare.proofs.in_unit.Goals as goal
 
 pub returns-in-Is : goal.returns-in-Is

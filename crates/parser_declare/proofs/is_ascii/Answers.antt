@@ -1,9 +1,6 @@
 -- Goals of `parser_declare::is_ascii` that the search leaves.
-use Prim.Native.Nat.{◌-◌, ◌≤◌}
-use mathlib.Core.Path.{◌≡◌, refl, ◌∙◌}
+use mathlib.Core.Path.{refl, ◌∙◌}
 use native.Mathlib.Omega.{arith}
-use lib.ListN.{length, drop}
-use Rattle.parser_part.specs.Plan.{is_ascii}
 use Rattle.parser_declare.proofs.Declarations.{ascii_more, ascii-stop, ascii-end}
 use borrow.Author.Rules.{rules}
 use Rattle.parser_declare.proofs.is_ascii.Goals as goal

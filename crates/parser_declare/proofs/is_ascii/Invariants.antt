@@ -1,11 +1,8 @@
 -- What the loops of `parser_declare::is_ascii` keep.
 use Prim.Native.Nat.{◌-◌, ◌≤◌}
-use mathlib.Core.Path.{◌≡◌, refl, ◌∙◌}
-use native.Mathlib.Omega.{arith}
+use mathlib.Core.Path.{◌≡◌}
 use lib.ListN.{length, drop}
 use Rattle.parser_part.specs.Plan.{is_ascii}
-use Rattle.parser_declare.proofs.Declarations.{ascii_more, ascii-stop, ascii-end}
-use borrow.Author.Rules.{rules}
 use Rattle.parser_declare.proofs.is_ascii.Given as goal
 
 abbrev pub invariant-loop-i : goal.invariant-loop-i

@@ -1,5 +1,4 @@
 -- Goals of `parser_declare::last` that the search leaves.
-use borrow.Author.Rules.{rules}
 use Rattle.parser_declare.proofs.last.Goals as goal
 
 pub returns-then-equals : goal.returns-then-equals

@@ -1,7 +1,6 @@
 -- Goals of `parser_declare::read_date` that the search leaves.
 use Rattle.command.specs.Meaning.{date}
 use Rattle.parser_part.proofs.Arms.{remark-on, remark-off}
-use borrow.Author.Rules.{rules}
 use Rattle.parser_declare.proofs.read_date.Goals as goal
 
 pub returns-in-Word : goal.returns-in-Word

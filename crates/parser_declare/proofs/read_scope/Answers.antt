@@ -1,6 +1,5 @@
 -- Goals of `parser_declare::read_scope` that the search leaves.
 use Rattle.parser_part.proofs.Arms.{word_next, word_on, word-off}
-use borrow.Author.Rules.{rules}
 use Rattle.parser_declare.proofs.read_scope.Goals as goal
 
 pub scope_name-requires : goal.scope_name-requires

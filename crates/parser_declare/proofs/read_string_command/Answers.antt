@@ -2,7 +2,6 @@
 use mathlib.Core.Path.{sym, ◌∙◌}
 use native.Mathlib.Omega.{arith}
 use Rattle.parser_declare.proofs.Declarations.{trimmed-inside}
-use borrow.Author.Rules.{rules}
 use Rattle.parser_declare.proofs.read_string_command.Goals as goal
 
 pub overflow_add-start : goal.overflow_add-start

@@ -1,6 +1,5 @@
 -- Goals of `parser_declare::read_timescale` that the search leaves.
 use Rattle.parser_part.proofs.Arms.{refusing, word_next, word_on, word-off}
-use borrow.Author.Rules.{rules}
 use Rattle.parser_declare.proofs.read_timescale.Goals as goal
 
 pub read_unit-requires : goal.read_unit-requires

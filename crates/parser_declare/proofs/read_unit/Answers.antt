@@ -4,7 +4,6 @@ use native.Mathlib.Omega.{arith}
 use lib.Seq.{length-take-le}
 use Rattle.parser_part.proofs.Arms.{word_next, word_on, word-off}
 use Rattle.parser_declare.proofs.Declarations.{unit-behind, unit-apart}
-use borrow.Author.Rules.{rules}
 use Rattle.parser_declare.proofs.read_unit.Goals as goal
 
 pub slice_bounds-scale-end : goal.slice_bounds-scale-end

@@ -1,6 +1,5 @@
 -- Goals of `parser_declare::read_var` that the search leaves.
 use Rattle.parser_part.proofs.Arms.{word_next, word_on, word-off}
-use borrow.Author.Rules.{rules}
 use Rattle.parser_declare.proofs.read_var.Goals as goal
 
 pub var_size-requires : goal.var_size-requires

@@ -1,6 +1,5 @@
 -- Goals of `parser_declare::scale` that the search leaves.
 use Rattle.parser_declare.proofs.Declarations.{quantity-on, quantity-off}
-use borrow.Author.Rules.{rules}
 use Rattle.parser_declare.proofs.scale.Goals as goal
 
 pub returns-in-Is : goal.returns-in-Is

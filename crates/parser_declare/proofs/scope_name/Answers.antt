@@ -1,6 +1,5 @@
 -- Goals of `parser_declare::scope_name` that the search leaves.
 use Rattle.parser_part.proofs.Arms.{refusing, word_next, word_on, word-off}
-use borrow.Author.Rules.{rules}
 use Rattle.parser_declare.proofs.scope_name.Goals as goal
 
 pub returns-in_default : goal.returns-in_default

@@ -1,6 +1,5 @@
 -- Goals of `parser_declare::var_end` that the search leaves.
 use Rattle.parser_part.proofs.Arms.{word_next, word_on, word-off}
-use borrow.Author.Rules.{rules}
 use Rattle.parser_declare.proofs.var_end.Goals as goal
 
 pub after_name-requires : goal.after_name-requires

@@ -1,6 +1,5 @@
 -- Goals of `parser_declare::var_id` that the search leaves.
 use Rattle.parser_part.proofs.Arms.{id_next, id-on, id-off}
-use borrow.Author.Rules.{rules}
 use Rattle.parser_declare.proofs.var_id.Goals as goal
 
 pub var_name-requires : goal.var_name-requires

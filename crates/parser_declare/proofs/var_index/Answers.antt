@@ -2,7 +2,6 @@
 use mathlib.Core.Path.{sym, ◌∙◌}
 use Rattle.parser_part.proofs.Arms.{refusing, word_on, word-off}
 use Rattle.parser_declare.proofs.Declarations.{run-last}
-use borrow.Author.Rules.{rules}
 use Rattle.parser_declare.proofs.var_index.Goals as goal
 
 pub returns-in_default : goal.returns-in_default

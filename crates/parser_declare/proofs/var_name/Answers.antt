@@ -1,6 +1,5 @@
 -- Goals of `parser_declare::var_name` that the search leaves.
 use Rattle.parser_part.proofs.Arms.{word_next, word_on, word-off}
-use borrow.Author.Rules.{rules}
 use Rattle.parser_declare.proofs.var_name.Goals as goal
 
 pub var_end-requires : goal.var_end-requires

@@ -3,7 +3,6 @@ use mathlib.Core.Path.{sym, ◌∙◌}
 use native.Mathlib.Omega.{arith}
 use Rattle.parser_part.proofs.Arms.{refusing, number-next, number-on, number-off}
 use Rattle.parser_declare.proofs.Declarations.{number_small}
-use borrow.Author.Rules.{rules}
 use Rattle.parser_declare.proofs.var_size.Goals as goal
 
 pub returns-in_default : goal.returns-in_default

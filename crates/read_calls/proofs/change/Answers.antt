@@ -3,7 +3,6 @@ use mathlib.Core.Path.{refl, ap, ◌∙◌}
 use borrow.Author.Tests.{ne_eqb}
 use Rattle.read_calls.specs.Reading.{is_change, is_change_call}
 use Rattle.read_calls.proofs.Taken.{change-inside, change-call, copied, uncopied}
-use borrow.Author.Rules.{rules}
 use Rattle.read_calls.proofs.Clauses.{status_change}
 use Rattle.read_calls.proofs.change.Goals as goal
 

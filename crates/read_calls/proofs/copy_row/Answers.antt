@@ -1,10 +1,9 @@
 -- Goals of `read_calls::copy_row` that the search leaves.
-use Prim.Native.Nat.{◌-◌, ◌*◌, ◌≤◌}
+use Prim.Native.Nat.{◌*◌}
 use mathlib.Core.Path.{◌≡◌, refl, ◌∙◌}
 use native.Mathlib.Omega.{arith}
 use lib.ListN.{length, drop, length-set}
-use Rattle.vcd_state.proofs.Words.{over, over-more, over-all}
-use borrow.Author.Rules.{rules}
+use Rattle.vcd_state.proofs.Words.{over-more, over-all}
 use Rattle.read_calls.proofs.copy_row.Goals as goal
 
 pub loop-j-init : goal.loop-j-init

@@ -1,5 +1,4 @@
 -- Goals of `read_calls::find_scope` that the search leaves.
-use borrow.Author.Rules.{rules}
 use Rattle.read_calls.proofs.find_scope.Goals as goal
 
 pub returns : goal.returns

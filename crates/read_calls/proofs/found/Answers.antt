@@ -1,6 +1,5 @@
 -- Goals of `read_calls::found` that the search leaves.
 use mathlib.Core.Path.{refl}
-use borrow.Author.Rules.{rules}
 use Rattle.read_calls.proofs.found.Goals as goal
 
 pub returns-in-At : goal.returns-in-At

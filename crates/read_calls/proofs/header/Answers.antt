@@ -3,7 +3,6 @@ use mathlib.Core.Path.{refl, sym, ◌∙◌}
 use borrow.Author.Tests.{eq-eqb, ne_eqb}
 use Rattle.read_calls.specs.Reading.{header_call_of}
 use Rattle.vcd_state.proofs.Taken.{cursor-four}
-use borrow.Author.Rules.{rules}
 use Rattle.read_calls.proofs.header.Goals as goal
 
 pub returns-then-head-ne-HEAD : goal.returns-then-head-ne-HEAD

@@ -1,5 +1,4 @@
 -- Goals of `read_calls::header_status` that the search leaves.
-use borrow.Author.Rules.{rules}
 use Rattle.read_calls.proofs.header_status.Goals as goal
 
 pub returns-in-Refused : goal.returns-in-Refused

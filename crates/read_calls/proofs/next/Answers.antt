@@ -4,7 +4,6 @@ use borrow.Author.Tests.{eq-eqb, ne_eqb}
 use Rattle.read_calls.specs.Reading.{next_call}
 use Rattle.vcd_state.proofs.Taken.{cursor-four}
 use Rattle.read_calls.proofs.OneRead.{one-read}
-use borrow.Author.Rules.{rules}
 use Rattle.read_calls.proofs.next.Goals as goal
 
 pub returns-then-words-ne-WORDS : goal.returns-then-words-ne-WORDS

@@ -2,7 +2,6 @@
 use mathlib.Core.Path.{refl, sym, ◌∙◌}
 use Rattle.read_calls.specs.Reading.{read_call}
 use Rattle.vcd_state.proofs.Taken.{cursor-four}
-use borrow.Author.Rules.{rules}
 use Rattle.read_calls.proofs.read.Goals as goal
 
 pub put_cursor-requires : goal.put_cursor-requires

@@ -1,5 +1,4 @@
 -- Goals of `read_calls::read_status` that the search leaves.
-use borrow.Author.Rules.{rules}
 use Rattle.read_calls.proofs.read_status.Goals as goal
 
 pub returns-in-Refused : goal.returns-in-Refused

@@ -3,7 +3,6 @@ use mathlib.Core.Path.{refl, ap, ◌∙◌}
 use borrow.Author.Tests.{ne_eqb}
 use Rattle.read_calls.specs.Reading.{is_row, is_row_call}
 use Rattle.read_calls.proofs.Taken.{row_inside, row-call, copied, uncopied}
-use borrow.Author.Rules.{rules}
 use Rattle.read_calls.proofs.Clauses.{status_row}
 use Rattle.read_calls.proofs.row.Goals as goal
 

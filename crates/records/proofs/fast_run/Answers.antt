@@ -1,13 +1,12 @@
 -- Goals of `records::fast_run` that the search leaves.
-use Prim.Native.Nat.{ℕ, ◌+◌, ◌-◌, ◌≤◌, ◌<◌}
+use Prim.Native.Nat.{ℕ, ◌+◌, ◌≤◌, ◌<◌}
 use mathlib.Core.List.{List}
 use native.Mathlib.Omega.{arith}
 use lib.ListN.{length}
 use Rattle.fast.specs.Fast.{Hits, Short}
 use Rattle.fast.specs.declared.Fast.{Fast}
 use Rattle.fast.specs.declared.Fast.TheVariants.{Time, Scalar}
-use Rattle.records.proofs.Taken.{Runs, runs-start, runs-ran, runs-length, runs-room, runs-next}
-use borrow.Author.Rules.{rules}
+use Rattle.records.proofs.Taken.{runs-start, runs-ran, runs-length, runs-room, runs-next}
 use Rattle.text.specs.Texts.{limit}
 use Rattle.records.proofs.fast_run.Goals as goal
 use Rattle.records.proofs.fast_run.Goals.{After-parse_short, In-Scalar, In-Time, in-Scalar, in-Time}
@@ -79,13 +78,13 @@ pub loop-at-preserved : goal.loop-at-preserved
 loop-at-preserved c =
     let next = runs-next _ _ _ _ _ _ _ _ c.loop-at.invariant c.loop-at-test.true in
     (elim c.match-parse_short.branch [
-      in-Time w ↦
-        let q = rw w.in-Time.is at c.parse_short.ensures in
-        rw (w.cur-is, w.word_read-cur.ensures, w.records-is, w.put_at.ensures, w.timestamp_words.ensures) (next _ _ q.0 q.1)
+      | in-Time w ↦
+          let q = rw w.in-Time.is at c.parse_short.ensures in
+          rw (w.cur-is, w.word_read-cur.ensures, w.records-is, w.put_at.ensures, w.timestamp_words.ensures) (next _ _ q.0 q.1)
       | in-Scalar w ↦
-        let q = rw w.in-Scalar.is at c.parse_short.ensures in
-        rw (w.cur-is, w.word_read-cur-in-Scalar.ensures, w.records-is, w.put_at-in-Scalar.ensures, w.scalar_words.ensures, w.number_at-v.ensures, q.0.means)
-        (next _ _ q.0.change q.1)
+          let q = rw w.in-Scalar.is at c.parse_short.ensures in
+          rw (w.cur-is, w.word_read-cur-in-Scalar.ensures, w.records-is, w.put_at-in-Scalar.ensures, w.scalar_words.ensures, w.number_at-v.ensures, q.0.means)
+          (next _ _ q.0.change q.1)
     ])
 
 pub shape_of-records : goal.shape_of-records

@@ -1,15 +1,6 @@
 -- What the loops of `records::fast_run` keep.
-use Prim.Native.Nat.{ℕ, ◌+◌, ◌-◌, ◌≤◌, ◌<◌}
-use mathlib.Core.List.{List}
-use mathlib.Core.Logic.{⊎_elim}
-use native.Mathlib.Omega.{arith}
-use lib.ListN.{length}
-use Rattle.fast.specs.Fast.{Hits, Short}
-use Rattle.fast.specs.declared.Fast.{Fast}
-use Rattle.fast.specs.declared.Fast.TheVariants.{Time, Scalar}
-use Rattle.records.proofs.Taken.{Runs, runs-start, runs-ran, runs-length, runs-room, runs-next}
-use borrow.Author.Rules.{rules}
-use Rattle.text.specs.Texts.{limit}
+use Prim.Native.Nat.{◌-◌}
+use Rattle.records.proofs.Taken.{Runs}
 use Rattle.records.proofs.fast_run.Given as goal
 
 abbrev pub invariant-loop-at : goal.invariant-loop-at

@@ -1,10 +1,8 @@
 -- Goals of `records::read` that the search leaves.
-use Prim.Native.Nat.{ℕ, ◌+◌, ◌-◌, ◌<◌}
+use Prim.Native.Nat.{◌+◌, ◌-◌, ◌<◌}
 use mathlib.Core.Path.{◌≡◌, sym, ◌∙◌}
 use mathlib.Core.Bool.{true}
-use mathlib.Core.List.{List}
 use native.Mathlib.Omega.{arith}
-use borrow.Author.Tests.{not-true, not-false}
 use lib.ListN.{length}
 use Rattle.parser.specs.Next.{is_good, next_from}
 use Rattle.parser.proofs.Ahead.{good-valid}
@@ -13,7 +11,6 @@ use Rattle.token.specs.declared.Cursor.{Cursor}
 use Rattle.records.specs.Read.{as_slow, Ran}
 use Rattle.records.specs.declared.Step.{Step}
 use Rattle.records.proofs.Taken.{Stepped, told, ran-start, ran-length, ran-join, ran-read, ran-full, ran-last, read-bad}
-use borrow.Author.Rules.{rules}
 use Rattle.records.proofs.read.Goals as goal
 use Rattle.records.proofs.read.Goals.{After-fast_run-ran, After-step_fast, Else-not-placed, In-Hit}
 

@@ -4,7 +4,6 @@ use Rattle.text.proofs.Lists.{take_rest}
 use Rattle.fast.specs.Fast.{Hits}
 use Rattle.fast.specs.declared.Fast.TheVariants.{Time, Scalar, Vector}
 use Rattle.records.proofs.Taken.{hit-step}
-use borrow.Author.Rules.{rules}
 use Rattle.records.proofs.step_fast.Goals as goal
 use Rattle.records.proofs.step_fast.Goals.{In-Scalar, In-Time, In-Vector}
 

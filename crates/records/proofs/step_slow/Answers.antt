@@ -1,6 +1,5 @@
 -- Goals of `records::step_slow` that the search leaves.
 use mathlib.Core.Path.{refl}
-use borrow.Author.Rules.{rules}
 use Rattle.records.proofs.step_slow.Goals as goal
 
 pub returns-in-Command : goal.returns-in-Command

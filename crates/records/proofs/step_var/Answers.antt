@@ -2,7 +2,6 @@
 use Rattle.fast.specs.Fast.{Reads}
 use Rattle.parser_part.specs.Plan.{var_def}
 use Rattle.records.proofs.Taken.{hit-step, slow-step}
-use borrow.Author.Rules.{rules}
 use Rattle.records.proofs.step_var.Goals as goal
 use Rattle.records.proofs.step_var.Goals.{In-Hit}
 

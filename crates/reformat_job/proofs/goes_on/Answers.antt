@@ -1,6 +1,5 @@
 -- Goals of `reformat_job::goes_on` that the search leaves.
 use Rattle.reformat_job.proofs.Calls.{none_first, some_first}
-use borrow.Author.Rules.{rules}
 use Rattle.reformat_job.proofs.goes_on.Goals as goal
 
 pub returns-then-count-eq0 : goal.returns-then-count-eq0

@@ -1,5 +1,4 @@
 -- Goals of `reformat_job::last` that the search leaves.
-use borrow.Author.Rules.{rules}
 use Rattle.reformat_job.proofs.last.Goals as goal
 
 pub returns-in-Count : goal.returns-in-Count

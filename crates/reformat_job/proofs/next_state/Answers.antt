@@ -1,6 +1,5 @@
 -- Goals of `reformat_job::next_state` that the search leaves.
 use Rattle.reformat_job.proofs.Calls.{next-on, next_last}
-use borrow.Author.Rules.{rules}
 use Rattle.reformat_job.proofs.next_state.Goals as goal
 
 pub returns-then-goes_on : goal.returns-then-goes_on

@@ -1,6 +1,5 @@
 -- Goals of `reformat_job::take_turn` that the search leaves.
 use mathlib.Core.Path.{refl}
-use borrow.Author.Rules.{rules}
 use Rattle.reformat_job.proofs.take_turn.Goals as goal
 
 pub returns-in-Begin : goal.returns-in-Begin

@@ -1,6 +1,5 @@
 -- Goals of `reformat_job::turn_begin` that the search leaves.
 use Rattle.reformat_job.proofs.Calls.{begin-long, begin-whole, begin-refused}
-use borrow.Author.Rules.{rules}
 use Rattle.reformat_job.proofs.turn_begin.Goals as goal
 
 pub returns-then-input-gt-TAKEN : goal.returns-then-input-gt-TAKEN

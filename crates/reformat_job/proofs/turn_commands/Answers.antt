@@ -1,6 +1,5 @@
 -- Goals of `reformat_job::turn_commands` that the search leaves.
 use Rattle.reformat_job.proofs.Calls.{commands-done}
-use borrow.Author.Rules.{rules}
 use Rattle.reformat_job.proofs.turn_commands.Goals as goal
 
 pub returns : goal.returns

@@ -2,7 +2,6 @@
 use mathlib.Core.Path.{sym, ap, ◌∙◌}
 use Rattle.reformat_job.specs.Turns.{headed_turn}
 use Rattle.reformat_job.proofs.Calls.{header-turn, header-left}
-use borrow.Author.Rules.{rules}
 use Rattle.reformat_job.proofs.turn_header.Goals as goal
 
 pub returns-in-Bytes : goal.returns-in-Bytes

@@ -1,6 +1,5 @@
 -- Goals of `reformat_job::turn_last` that the search leaves.
 use Rattle.reformat_job.proofs.Calls.{last-refused}
-use borrow.Author.Rules.{rules}
 use Rattle.reformat_job.proofs.turn_last.Goals as goal
 
 pub returns : goal.returns

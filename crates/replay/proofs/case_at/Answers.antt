@@ -1,9 +1,6 @@
 -- Goals of `replay::case_at` that the search leaves.
-use Prim.Native.Nat.{◌-◌}
 use native.Mathlib.Omega.{arith}
-use lib.ListN.{length}
 use borrow.Author.Tests.{ltb-false}
-use borrow.Author.Rules.{rules}
 use Rattle.replay.proofs.case_at.Goals as goal
 
 pub overflow_mul-len : goal.overflow_mul-len

@@ -1,9 +1,6 @@
 -- What the loops of `replay::case_at` keep.
 use Prim.Native.Nat.{◌-◌}
-use native.Mathlib.Omega.{arith}
 use lib.ListN.{length}
-use borrow.Author.Tests.{ltb-false}
-use borrow.Author.Rules.{rules}
 use Rattle.replay.proofs.case_at.Given as goal
 
 abbrev pub invariant-loop-i : goal.invariant-loop-i

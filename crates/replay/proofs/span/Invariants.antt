@@ -1,7 +1,6 @@
 -- What the loops of `replay::span` keep.
 use Prim.Native.Nat.{◌-◌}
 use lib.ListN.{length}
-use borrow.Author.Rules.{rules}
 use Rattle.replay.proofs.span.Given as goal
 
 abbrev pub invariant-loop-n : goal.invariant-loop-n

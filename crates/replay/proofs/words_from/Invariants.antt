@@ -1,7 +1,6 @@
 -- What the loops of `replay::words_from` keep.
 use Prim.Native.Nat.{◌-◌, ◌≤◌}
 use lib.ListN.{length}
-use borrow.Author.Rules.{rules}
 use Rattle.replay.proofs.words_from.Given as goal
 
 abbrev pub invariant-loop-i : goal.invariant-loop-i

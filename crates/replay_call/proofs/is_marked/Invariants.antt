@@ -1,7 +1,6 @@
 -- What the loops of `replay_call::is_marked` keep.
 use Prim.Native.Nat.{◌-◌}
 use lib.ListN.{length}
-use borrow.Author.Rules.{rules}
 use Rattle.replay_call.proofs.is_marked.Given as goal
 
 abbrev pub invariant-loop-i : goal.invariant-loop-i

@@ -2,7 +2,6 @@
 use Prim.Native.Nat.{◌-◌, ◌≤◌}
 use mathlib.Core.Path.{◌≡◌}
 use lib.ListN.{length}
-use borrow.Author.Rules.{rules}
 use Rattle.replay_read.proofs.answer_all.Given as goal
 
 abbrev pub invariant-loop-number : goal.invariant-loop-number

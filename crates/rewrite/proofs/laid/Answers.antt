@@ -1,5 +1,4 @@
 -- Goals of `rewrite::laid` that the search leaves.
-use borrow.Author.Rules.{rules}
 use Rattle.rewrite.proofs.laid.Goals as goal
 
 pub returns-in-Count : goal.returns-in-Count

@@ -1,12 +1,10 @@
 -- Goals of `rewrite::rewrite` that the search leaves.
-use Prim.Native.Nat.{◌-◌, ◌<◌}
+use Prim.Native.Nat.{◌<◌}
 use mathlib.Core.Path.{refl, sym, ◌∙◌}
 use native.Mathlib.Omega.{arith}
-use borrow.Author.Rules.{rules}
-use borrow.Author.Tests.{not-true, not-false}
 use lib.ListN.{length}
 use Rattle.parser.proofs.Ahead.{good-valid}
-use Rattle.rewrite.proofs.Turn.{Writes, writes-none, writes-length, goes_on, goes-hit, stops-length, stops, stops-before}
+use Rattle.rewrite.proofs.Turn.{writes-none, writes-length, goes_on, goes-hit, stops-length, stops, stops-before}
 use Rattle.rewrite.proofs.Usual.{may-move}
 use Rattle.rewrite.proofs.rewrite.Goals as goal
 use Rattle.rewrite.proofs.rewrite.Goals.{In-Hit}

@@ -1,6 +1,5 @@
 -- Goals of `rewrite::step_fast` that the search leaves.
 use native.Mathlib.Omega.{arith}
-use borrow.Author.Rules.{rules}
 use Rattle.fast.specs.Fast.{Reads, ReadsScalar, ReadsVector}
 use Rattle.command.specs.declared.Command.{Command}
 use Rattle.text.specs.Texts.{part}

@@ -1,6 +1,5 @@
 -- Goals of `rewrite::step_slow` that the search leaves.
 use mathlib.Core.Path.{refl, sym, ◌∙◌}
-use borrow.Author.Rules.{rules}
 use Rattle.rewrite.proofs.Turn.{command-steps}
 use Rattle.rewrite.proofs.step_slow.Goals as goal
 

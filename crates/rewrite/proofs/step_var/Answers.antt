@@ -4,7 +4,6 @@ use Rattle.fast.specs.Fast.{Reads}
 use Rattle.parser_part.specs.Plan.{var_def}
 use Rattle.rewrite.proofs.Turn.{command-steps}
 use Rattle.rewrite.proofs.Usual.{may-move}
-use borrow.Author.Rules.{rules}
 use Rattle.rewrite.proofs.step_var.Goals as goal
 use Rattle.rewrite.proofs.step_var.Goals.{In-Hit}
 

@@ -1,5 +1,4 @@
 -- Goals of `rewrite::wrote` that the search leaves.
-use borrow.Author.Rules.{rules}
 use Rattle.rewrite.proofs.wrote.Goals as goal
 
 pub returns-in-Bytes : goal.returns-in-Bytes

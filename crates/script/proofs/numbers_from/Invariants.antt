@@ -1,5 +1,5 @@
 -- What the loops of `script::numbers_from` keep.
-use Rattle.std.proofs.Common.{◌≡◌, ◌-◌, length, rules}
+use Rattle.std.proofs.Common.{◌≡◌, ◌-◌, length}
 use Rattle.script.proofs.numbers_from.Given as goal
 
 abbrev pub invariant-loop-n : goal.invariant-loop-n

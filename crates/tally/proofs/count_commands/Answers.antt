@@ -2,13 +2,11 @@
 use Rattle.parser.specs.Next.{next_from}
 use Rattle.parser_part.specs.declared.Next.TheVariants.{Command}
 use Rattle.token.proofs.Reading.{From}
-use Prim.Native.Nat.{◌+◌, ◌-◌, ◌≤◌, ◌<◌}
+use Prim.Native.Nat.{◌<◌}
 use borrow.Author.Rules.{rules}
 use mathlib.Core.Path.{◌≡◌, refl, sym, ◌∙◌}
 use native.Mathlib.Omega.{arith}
-use lib.ListN.{length}
 use Rattle.parser.proofs.Ahead.{command-past}
-use Rattle.tally.specs.Count.{counts}
 use Rattle.tally.proofs.Counts.{count-step, count-refused, count-done}
 use Rattle.tally.proofs.count_commands.Goals as goal
 use Rattle.tally.proofs.count_commands.Goals.{In-Command}

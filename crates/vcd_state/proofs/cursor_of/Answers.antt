@@ -1,7 +1,6 @@
 -- Goals of `vcd_state::cursor_of` that the search leaves.
 use borrow.Author.Tests.{eq-eqb, ne_eqb, le-leb, lt-leb}
 use Rattle.vcd_state.specs.State.{cursor_of}
-use borrow.Author.Rules.{rules}
 use Rattle.vcd_state.proofs.cursor_of.Goals as goal
 
 pub returns-then-w-ne-CURSOR : goal.returns-then-w-ne-CURSOR

@@ -1,9 +1,8 @@
 -- Goals of `vcd_state::head_of` that the search leaves.
 use mathlib.Core.Path.{sym, ◌∙◌}
-use borrow.Author.Tests.{eq-eqb, ne_eqb, not-true, not-false}
+use borrow.Author.Tests.{eq-eqb, ne_eqb}
 use Rattle.vcd_state.specs.State.{head_of}
 use Rattle.vcd_state.proofs.Taken.{scale_small}
-use borrow.Author.Rules.{rules}
 use Rattle.vcd_state.proofs.head_of.Goals as goal
 
 pub returns-then-w-ne-HEAD : goal.returns-then-w-ne-HEAD

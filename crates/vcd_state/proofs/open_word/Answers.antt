@@ -2,7 +2,6 @@
 use native.Mathlib.Omega.{arith}
 use Rattle.text.proofs.Orders.{small}
 use Rattle.command.proofs.Numbers.{sim-order}
-use borrow.Author.Rules.{rules}
 use Rattle.vcd_state.proofs.open_word.Goals as goal
 
 pub overflow_add-result : goal.overflow_add-result

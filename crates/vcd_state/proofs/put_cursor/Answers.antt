@@ -1,7 +1,6 @@
 -- Goals of `vcd_state::put_cursor` that the search leaves.
 use Rattle.vcd_state.specs.State.{cursor_words}
 use Rattle.vcd_state.proofs.Words.{sets-whole}
-use borrow.Author.Rules.{rules}
 use Rattle.vcd_state.proofs.put_cursor.Goals as goal
 
 pub returns : goal.returns

@@ -3,7 +3,6 @@ use mathlib.Core.Path.{◌≡◌, ◌∙◌}
 use native.Mathlib.Omega.{arith}
 use lib.ListN.{length, set, length-set}
 use Rattle.vcd_state.proofs.Words.{head-stored}
-use borrow.Author.Rules.{rules}
 use Rattle.vcd_state.proofs.put_head.Goals as goal
 use Rattle.vcd_state.proofs.put_head.Goals.{After-put_text-arg-1}
 

@@ -1,5 +1,4 @@
 -- Goals of `vcd_state::put_scale` that the search leaves.
-use borrow.Author.Rules.{rules}
 use Rattle.vcd_state.proofs.put_scale.Goals as goal
 
 pub returns-in-None : goal.returns-in-None

@@ -1,5 +1,4 @@
 -- Goals of `vcd_state::put_text` that the search leaves.
-use borrow.Author.Rules.{rules}
 use Rattle.vcd_state.proofs.put_text.Goals as goal
 
 pub returns-in-None : goal.returns-in-None

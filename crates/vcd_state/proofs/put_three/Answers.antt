@@ -4,7 +4,6 @@ use Prim.Native.Nat.{◌+◌}
 use lib.ListN.{set}
 use lib.Seq.{lt-length-set}
 use Rattle.vcd_state.proofs.Words.{three-stored}
-use borrow.Author.Rules.{rules}
 use Rattle.vcd_state.proofs.put_three.Goals as goal
 
 pub bounds-w-at-2 : goal.bounds-w-at-2

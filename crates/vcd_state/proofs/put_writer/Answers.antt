@@ -1,7 +1,6 @@
 -- Goals of `vcd_state::put_writer` that the search leaves.
 use Rattle.vcd_state.specs.State.{writer_words}
 use Rattle.vcd_state.proofs.Words.{sets-whole}
-use borrow.Author.Rules.{rules}
 use Rattle.vcd_state.proofs.put_writer.Goals as goal
 
 pub returns : goal.returns

@@ -1,7 +1,6 @@
 -- Goals of `vcd_state::scale_of` that the search leaves.
 use borrow.Author.Tests.{ne_eqb}
 use Rattle.vcd_state.specs.State.{scale_of}
-use borrow.Author.Rules.{rules}
 use Rattle.vcd_state.proofs.scale_of.Goals as goal
 
 pub returns-in-0 : goal.returns-in-0

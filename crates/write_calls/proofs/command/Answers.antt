@@ -3,7 +3,6 @@ use mathlib.Core.Path.{refl, sym, ◌∙◌}
 use borrow.Author.Tests.{eq-eqb, ne_eqb}
 use Rattle.write_calls.specs.Writing.{command_call}
 use Rattle.vcd_state.proofs.Taken.{writer-three}
-use borrow.Author.Rules.{rules}
 use Rattle.write_calls.proofs.command.Goals as goal
 
 pub returns-then-words-ne-WORDS : goal.returns-then-words-ne-WORDS

@@ -1,7 +1,6 @@
 -- Goals of `write_calls::id_code` that the search leaves.
 use mathlib.Core.Path.{refl, ap, ◌∙◌}
 use Rattle.command.specs.Refusals.{number_of}
-use borrow.Author.Rules.{rules}
 use Rattle.write_calls.proofs.id_code.Goals as goal
 
 pub returns-in-Code : goal.returns-in-Code

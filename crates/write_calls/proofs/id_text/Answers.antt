@@ -2,7 +2,6 @@
 use mathlib.Core.Path.{refl}
 use borrow.Author.Tests.{eq-eqb, ne_eqb}
 use Rattle.write_calls.specs.Writing.{id_status, id_bytes, id_count}
-use borrow.Author.Rules.{rules}
 use Rattle.write_calls.proofs.id_text.Goals as goal
 
 pub returns-then-code-eq-NONE : goal.returns-then-code-eq-NONE

@@ -2,7 +2,6 @@
 use mathlib.Core.Path.{refl, sym, ◌∙◌}
 use Rattle.write_calls.specs.Writing.{rewrite_call}
 use Rattle.vcd_state.proofs.Taken.{cursor-four, writer-three}
-use borrow.Author.Rules.{rules}
 use Rattle.write_calls.proofs.rewrite.Goals as goal
 
 pub put_cursor-requires : goal.put_cursor-requires

@@ -1,6 +1,5 @@
 -- Goals of `write_calls::rewrite_status` that the search leaves.
 use mathlib.Core.Path.{refl}
-use borrow.Author.Rules.{rules}
 use Rattle.write_calls.proofs.rewrite_status.Goals as goal
 
 pub returns-in-Refused : goal.returns-in-Refused

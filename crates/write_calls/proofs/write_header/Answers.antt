@@ -2,7 +2,6 @@
 use mathlib.Core.Path.{refl, sym, ◌∙◌}
 use Rattle.write_calls.specs.Writing.{write_header_call}
 use Rattle.vcd_state.proofs.Taken.{writer-three}
-use borrow.Author.Rules.{rules}
 use Rattle.write_calls.proofs.write_header.Goals as goal
 
 pub wrote_header-requires : goal.wrote_header-requires

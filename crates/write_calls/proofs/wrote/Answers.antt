@@ -1,6 +1,5 @@
 -- Goals of `write_calls::wrote` that the search leaves.
 use mathlib.Core.Path.{refl}
-use borrow.Author.Rules.{rules}
 use Rattle.write_calls.proofs.wrote.Goals as goal
 
 pub returns-in-Bytes : goal.returns-in-Bytes

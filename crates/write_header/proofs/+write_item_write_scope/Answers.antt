@@ -1,8 +1,7 @@
 -- The goals of the cycle of calls {write_item, write_scope} that the search leaves.
-use Prim.Native.Nat.{ℕ, ◌+◌, ◌-◌, ◌*◌, ◌≤◌, ◌<◌}
-use mathlib.Core.Path.{◌≡◌, refl, sym, ap, ◌∙◌}
+use Prim.Native.Nat.{◌-◌}
+use mathlib.Core.Path.{refl, sym, ap, ◌∙◌}
 use native.Mathlib.Omega.{arith}
-use lib.ListN.{length}
 use Rattle.rows.specs.Peek.{kind_of}
 use Rattle.write_header.proofs.Items.{leaf, no_row, no-level, not_opened, nested, goes_on, goes-out, fits}
 use Rattle.write_header.proofs.Places.{scope-placed, comment-placed}

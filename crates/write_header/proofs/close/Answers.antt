@@ -1,6 +1,5 @@
 -- Goals of `write_header::close` that the search leaves.
 use mathlib.Core.Path.{refl}
-use borrow.Author.Rules.{rules}
 use Rattle.write_header.proofs.close.Goals as goal
 
 pub write_one-requires : goal.write_one-requires

@@ -1,13 +1,11 @@
 -- Goals of `write_header::header` that the search leaves.
 use mathlib.Core.Path.{sym, ◌∙◌}
-use borrow.Author.Tests.{not-true, not-false}
 use Rattle.rows.specs.Rows.{rows_of}
 use Rattle.write_header.specs.Meanings.{row_meanings}
 use Rattle.write_header.specs.Pour.{stop}
 use mathlib.Core.List.{[]}
 use Rattle.write_header.proofs.Calls.{bad-place, bad-table, call-pours, of-outcome, does-too}
 use Rattle.write_header.proofs.Places.{inside}
-use borrow.Author.Rules.{rules}
 use Rattle.write_header.proofs.header.Goals as goal
 
 pub returns-then-misplaced : goal.returns-then-misplaced

@@ -2,7 +2,6 @@
 use mathlib.Core.Path.{refl}
 use native.Mathlib.Omega.{arith}
 use Rattle.write_header.proofs.Places.{placed}
-use borrow.Author.Rules.{rules}
 use Rattle.write_header.proofs.write_date.Goals as goal
 
 pub write_one-requires : goal.write_one-requires

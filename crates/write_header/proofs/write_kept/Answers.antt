@@ -4,7 +4,6 @@ use Rattle.command.specs.Meaning.{date, version}
 use Rattle.write_header.specs.Meanings.{remark_of, timescale_of}
 use Rattle.write_header.specs.declared.Wrote.{Wrote}
 use Rattle.write_header.proofs.Poured.{then-writes, then-stops}
-use borrow.Author.Rules.{rules}
 use Rattle.write_header.proofs.write_kept.Goals as goal
 
 pub write_version-requires : goal.write_version-requires

@@ -1,7 +1,6 @@
 -- Goals of `write_header::write_one` that the search leaves.
 use mathlib.Core.Path.{refl}
 use native.Mathlib.Omega.{arith}
-use borrow.Author.Rules.{rules}
 use Rattle.write_header.proofs.Poured.{told}
 use Rattle.write_header.proofs.write_one.Goals as goal
 

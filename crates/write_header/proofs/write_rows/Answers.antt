@@ -2,7 +2,6 @@
 use native.Mathlib.Omega.{arith}
 use Rattle.write_header.proofs.Calls.{rows-stop, end-stop, end_whole}
 use Rattle.write_header.proofs.Rows.{good-parts}
-use borrow.Author.Rules.{rules}
 use Rattle.write_header.proofs.write_rows.Goals as goal
 
 pub write_scope-requires : goal.write_scope-requires

@@ -1,6 +1,5 @@
 -- Goals of `write_header::write_timescale` that the search leaves.
 use mathlib.Core.Path.{refl}
-use borrow.Author.Rules.{rules}
 use Rattle.write_header.proofs.write_timescale.Goals as goal
 
 pub write_one-requires : goal.write_one-requires

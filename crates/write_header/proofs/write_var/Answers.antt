@@ -4,7 +4,6 @@ use native.Mathlib.Omega.{arith}
 use Rattle.command.specs.declared.Command.{Command}
 use Rattle.scope.specs.declared.Var.{Var}
 use Rattle.write_header.proofs.Poured.{told}
-use borrow.Author.Rules.{rules}
 use Rattle.write_header.proofs.write_var.Goals as goal
 
 abbrev it : Var → Command

@@ -1,11 +1,8 @@
 -- Goals of `write_header::write_vars` that the search leaves.
-use Prim.Native.Nat.{◌-◌, ◌≤◌}
-use mathlib.Core.Path.{◌≡◌, refl, sym, ◌∙◌}
+use mathlib.Core.Path.{refl, sym, ◌∙◌}
 use native.Mathlib.Omega.{arith}
-use lib.ListN.{length}
-use Rattle.write_header.proofs.Items.{Run, var-of, moved, one_more, no_more}
+use Rattle.write_header.proofs.Items.{var-of, moved, one_more, no_more}
 use Rattle.write_header.proofs.Places.{var-placed}
-use borrow.Author.Rules.{rules}
 use Rattle.write_header.proofs.write_vars.Goals as goal
 
 pub loop-i-init : goal.loop-i-init

@@ -1,11 +1,8 @@
 -- What the loops of `write_header::write_vars` keep.
 use Prim.Native.Nat.{◌-◌, ◌≤◌}
-use mathlib.Core.Path.{◌≡◌, refl, sym, ◌∙◌}
-use native.Mathlib.Omega.{arith}
+use mathlib.Core.Path.{◌≡◌}
 use lib.ListN.{length}
-use Rattle.write_header.proofs.Items.{Run, var-of, moved, one_more, no_more}
-use Rattle.write_header.proofs.Places.{var-placed}
-use borrow.Author.Rules.{rules}
+use Rattle.write_header.proofs.Items.{Run}
 use Rattle.write_header.proofs.write_vars.Given as goal
 
 abbrev pub invariant-loop-i : goal.invariant-loop-i

@@ -1,7 +1,6 @@
 -- Goals of `write_header::write_version` that the search leaves.
 use mathlib.Core.Path.{refl}
 use Rattle.write_header.proofs.Places.{placed}
-use borrow.Author.Rules.{rules}
 use Rattle.write_header.proofs.write_version.Goals as goal
 
 pub write_one-requires : goal.write_one-requires

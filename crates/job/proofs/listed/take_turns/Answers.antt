@@ -1,9 +1,5 @@
 -- Goals of `job::listed::take_turns` that the search leaves.
-use mathlib.Core.Path.{◌≡◌}
-use lib.ListN.{length}
-use borrow.Author.Tests.{not-true}
 use borrow.Author.Rules.{rules}
-use Rattle.list_job.specs.Turns.{Tables, left}
 use Rattle.list_job.proofs.Turning.{turn_on}
 use Rattle.job.proofs.listed.take_turns.Goals as goal
 

@@ -1,10 +1,7 @@
 -- What the loops of `job::listed::take_turns` keep.
 use mathlib.Core.Path.{◌≡◌}
 use lib.ListN.{length}
-use borrow.Author.Tests.{not-true}
-use borrow.Author.Rules.{rules}
 use Rattle.list_job.specs.Turns.{Tables, left}
-use Rattle.list_job.proofs.Turning.{turn_on}
 use Rattle.job.proofs.listed.take_turns.Given as goal
 
 abbrev pub invariant-loop-stdout : goal.invariant-loop-stdout

@@ -1,9 +1,5 @@
 -- Goals of `job::rewriting::take_turns` that the search leaves.
-use mathlib.Core.Path.{◌≡◌}
-use lib.ListN.{length}
-use borrow.Author.Tests.{not-true}
-use borrow.Author.Rules.{rules}
-use Rattle.reformat_job.proofs.Turning.{left, turn_on}
+use Rattle.reformat_job.proofs.Turning.{turn_on}
 use Rattle.job.proofs.rewriting.take_turns.Goals as goal
 
 pub loop-stdout-smaller : goal.loop-stdout-smaller

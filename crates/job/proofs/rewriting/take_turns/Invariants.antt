@@ -1,9 +1,7 @@
 -- What the loops of `job::rewriting::take_turns` keep.
 use mathlib.Core.Path.{◌≡◌}
 use lib.ListN.{length}
-use borrow.Author.Tests.{not-true}
-use borrow.Author.Rules.{rules}
-use Rattle.reformat_job.proofs.Turning.{left, turn_on}
+use Rattle.reformat_job.proofs.Turning.{left}
 use Rattle.job.proofs.rewriting.take_turns.Given as goal
 
 abbrev pub invariant-loop-stdout : goal.invariant-loop-stdout

@@ -2,7 +2,6 @@
 use mathlib.Core.Path.{sym}
 use native.Mathlib.Omega.{arith}
 use lib.Seq.{length-take-le}
-use borrow.Author.Rules.{rules}
 use Rattle.replay_header.proofs.answer.answer.Goals as goal
 
 pub slice_bounds-answer_dump-end-2 : goal.slice_bounds-answer_dump-end-2

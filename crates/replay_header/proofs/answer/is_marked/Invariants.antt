@@ -1,7 +1,6 @@
 -- What the loops of `replay_header::answer::is_marked` keep.
 use Prim.Native.Nat.{◌-◌}
 use lib.ListN.{length}
-use borrow.Author.Rules.{rules}
 use Rattle.replay_header.proofs.answer.is_marked.Given as goal
 
 abbrev pub invariant-loop-i : goal.invariant-loop-i

@@ -2,7 +2,6 @@
 use mathlib.Core.Path.{sym}
 use native.Mathlib.Omega.{arith}
 use lib.Seq.{length-take-le}
-use borrow.Author.Rules.{rules}
 use Rattle.replay_write.proofs.answer.answer_table.Goals as goal
 
 pub slice_bounds-by_header-end : goal.slice_bounds-by_header-end

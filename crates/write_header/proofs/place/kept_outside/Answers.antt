@@ -1,7 +1,6 @@
 -- Goals of `write_header::place::kept_outside` that the search leaves.
 use mathlib.Core.Path.{ap}
 use mathlib.Core.Bool.{not}
-use borrow.Author.Rules.{rules}
 use Rattle.write_header.proofs.place.kept_outside.Goals as goal
 
 pub returns-in-Is : goal.returns-in-Is

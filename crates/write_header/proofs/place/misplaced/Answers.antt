@@ -2,7 +2,6 @@
 use mathlib.Core.Path.{sym, ◌∙◌}
 use Rattle.text.proofs.Limit.{too_long_lem, not-long}
 use Rattle.write_header.specs.Written.{misplaced}
-use borrow.Author.Rules.{rules}
 use Rattle.write_header.proofs.place.misplaced.Goals as goal
 
 pub returns-then-src-gt-LIMIT : goal.returns-then-src-gt-LIMIT
