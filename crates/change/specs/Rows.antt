@@ -1,9 +1,8 @@
 -- A listing's rows: the six words of a row, the row that words are, and a table of rows; and a time alone, as two words.
-use Rattle.std.specs.Prelude.{ℕ, ◌+◌, ◌*◌, ◌/◌, Bool, cond, ◌&&◌, List, [], ◌∷◌, ◌++◌, eqb, leb, ltb, length, get_or, take, drop}
+use Rattle.command.specs.declared.Time.{Time}
+use Rattle.std.specs.Prelude.{ℕ, ◌+◌, ◌*◌, ◌/◌, Bool, cond, ◌&&◌, List, [], ◌∷◌, ◌++◌, eqb, leb, ltb, length, get_or, take, drop, Option, Some, None}
 use Rattle.change.specs.declared.Change.{Change}
 use Rattle.change.specs.declared.ChangeKind.{ChangeKind}
-use Rattle.change.specs.declared.Since.{Since}
-use Rattle.change.specs.declared.SinceRead.{SinceRead}
 
 abbrev pub kind_number : ChangeKind → ℕ
 kind_number ChangeKind.Scalar = 1
@@ -19,20 +18,20 @@ kind_of n =
     ChangeKind.String))
 
 -- whether there is a time, and the time
-abbrev pub since_words : Since → List ℕ
-since_words Since.None = 0 ∷ 0 ∷ []
-since_words (Since.Time t) = 1 ∷ t.0 ∷ []
+abbrev pub since_words : Option Time → List ℕ
+since_words None = 0 ∷ 0 ∷ []
+since_words (Some t) = 1 ∷ t.0 ∷ []
 
 unfoldable pub is_since : ℕ → ℕ → Bool
 is_since h t = cond (eqb h 0) (eqb t 0) (eqb h 1)
 
-unfoldable pub since_of : ℕ → ℕ → Since
-since_of h t = cond (eqb h 0) Since.None (Since.Time (record { 0 = t }))
+unfoldable pub since_of : ℕ → ℕ → Option Time
+since_of h t = cond (eqb h 0) None (Some (record { 0 = t }))
 
 -- the time of two words, no more and no less
-unfoldable pub since_in : List ℕ → SinceRead
+unfoldable pub since_in : List ℕ → Option (Option Time)
 since_in w =
-    cond (eqb (length w) 2 && is_since (get_or w 0 0) (get_or w 1 0)) (SinceRead.Is (since_of (get_or w 0 0) (get_or w 1 0))) SinceRead.Bad
+    cond (eqb (length w) 2 && is_since (get_or w 0 0) (get_or w 1 0)) (Some (since_of (get_or w 0 0) (get_or w 1 0))) None
 
 -- time or none, line, kind, start and length of the value
 abbrev pub change_words : Change → List ℕ

@@ -9,13 +9,6 @@ ghost use Rattle.change.specs.Rows.{change_at, change_of, change_words, is_since
 use command::Time;
 use text::Text;
 
-// The last timestamp that was read, or none.
-#[derive(Clone, Copy)]
-pub enum Since {
-    None,
-    Time(Time),
-}
-
 #[derive(Clone, Copy)]
 pub enum ChangeKind {
     Scalar,
@@ -27,15 +20,8 @@ pub enum ChangeKind {
 // A row by value: its time, line, kind and value; none where there is none, or where the words are no row.
 #[derive(Clone, Copy)]
 pub enum Change {
-    Is(Since, u64, ChangeKind, Text),
+    Is(Option<Time>, u64, ChangeKind, Text),
     None,
-}
-
-// The time that words are; bad where they are none.
-#[derive(Clone, Copy)]
-pub enum SinceRead {
-    Is(Since),
-    Bad,
 }
 
 // Words a row.
@@ -45,6 +31,7 @@ pub const WORDS: usize = 6;
 pub const SINCE: usize = 2;
 
 // Row `i` of a table.
+#[tactic(auto, unfolding(crate::specs::Rows::change_at))]
 pub fn change_at(rows: &[u64], i: usize) -> Change
     ensures { result ≡ change_at rows.now i }
 {
@@ -63,16 +50,11 @@ pub fn change_at(rows: &[u64], i: usize) -> Change
 }
 
 // The row of these words: has a time, time, line, kind, start, length.
+#[tactic(auto, unfolding(crate::specs::Rows::change_of))]
 fn change_of(h: u64, t: u64, line: u64, k: u64, s: u64, l: u64) -> Change
     ensures { result ≡ change_of h t line k s l }
 {
-    if !is_since(h, t) {
-        return Change::None;
-    }
-    if k < 1 {
-        return Change::None;
-    }
-    if 4 < k {
+    if !is_since(h, t) || k < 1 || 4 < k {
         return Change::None;
     }
     let value = Text {
@@ -82,6 +64,7 @@ fn change_of(h: u64, t: u64, line: u64, k: u64, s: u64, l: u64) -> Change
     Change::Is(since_of(h, t), line, kind_of(k), value)
 }
 
+#[tactic(auto, unfolding(crate::specs::Rows::is_since))]
 fn is_since(h: u64, t: u64) -> bool
     ensures { result ≡ is_since h t }
 {
@@ -91,36 +74,35 @@ fn is_since(h: u64, t: u64) -> bool
     h == 1
 }
 
-fn since_of(h: u64, t: u64) -> Since
+#[tactic(auto, unfolding(crate::specs::Rows::since_of))]
+fn since_of(h: u64, t: u64) -> Option<Time>
     ensures { result ≡ since_of h t }
 {
     if h == 0 {
-        return Since::None;
+        return None;
     }
-    Since::Time(Time(t))
+    Some(Time(t))
 }
 
 // The time of two words.
-pub fn since_in(w: &[u64]) -> SinceRead
+#[tactic(auto, unfolding(crate::specs::Rows::since_in))]
+pub fn since_in(w: &[u64]) -> Option<Option<Time>>
     ensures { result ≡ since_in w.now }
 {
-    if w.len() != SINCE {
-        return SinceRead::Bad;
+    if w.len() != SINCE || !is_since(w[0], w[1]) {
+        return None;
     }
-    if !is_since(w[0], w[1]) {
-        return SinceRead::Bad;
-    }
-    SinceRead::Is(since_of(w[0], w[1]))
+    Some(since_of(w[0], w[1]))
 }
 
 // Stores a time.
-pub fn put_since(w: &mut [u64], since: Since)
+pub fn put_since(w: &mut [u64], since: Option<Time>)
     requires { length w.old ≡ 2 }
     ensures { w.new ≡ since_words since }
 {
     match since {
-        Since::None => put_two(w, 0, 0),
-        Since::Time(t) => put_two(w, 1, t.0),
+        None => put_two(w, 0, 0),
+        Some(t) => put_two(w, 1, t.0),
     }
 }
 
@@ -132,19 +114,16 @@ fn put_two(w: &mut [u64], has: u64, time: u64)
     w[1] = time;
 }
 
+#[tactic(auto, unfolding(crate::specs::Rows::kind_of))]
 fn kind_of(k: u64) -> ChangeKind
     ensures { result ≡ kind_of k }
 {
-    if k == 1 {
-        return ChangeKind::Scalar;
+    match k {
+        1 => ChangeKind::Scalar,
+        2 => ChangeKind::Vector,
+        3 => ChangeKind::Real,
+        _ => ChangeKind::String,
     }
-    if k == 2 {
-        return ChangeKind::Vector;
-    }
-    if k == 3 {
-        return ChangeKind::Real;
-    }
-    ChangeKind::String
 }
 
 fn kind_number(k: ChangeKind) -> u64
@@ -162,7 +141,7 @@ fn kind_number(k: ChangeKind) -> u64
 pub fn put_change(
     rows: &mut [u64],
     n: usize,
-    since: Since,
+    since: Option<Time>,
     line: u64,
     kind: ChangeKind,
     value: Text,
@@ -174,19 +153,16 @@ pub fn put_change(
     let s = value.start as u64;
     let l = value.len as u64;
     match since {
-        Since::None => put_row(rows, n, &[0, 0, line, k, s, l]),
-        Since::Time(t) => put_row(rows, n, &[1, t.0, line, k, s, l]),
+        None => put_row(rows, n, &[0, 0, line, k, s, l]),
+        Some(t) => put_row(rows, n, &[1, t.0, line, k, s, l]),
     }
 }
 
+#[tactic(auto, using(std::proofs::lemmas::Slice::overwrites), unfolding(crate::specs::Rows::put))]
 fn put_row(rows: &mut [u64], n: usize, w: &[u64])
     requires { (length w.now ≡ 6) × (6 * n + 6 ≤ length rows.old) }
     ensures { rows.new ≡ put rows.old n w.now }
 {
     let at = WORDS * n;
-    let mut i = 0;
-    while i < w.len() {
-        rows[at + i] = w[i];
-        i += 1;
-    }
+    rows[at..at + WORDS].copy_from_slice(w);
 }

@@ -7,6 +7,9 @@ use rows::Row;
 use token::Cursor;
 use value::Value;
 
+// Every command takes a byte, so this many are enough.
+const MOST_COMMANDS: u64 = 4294967296;
+
 // What is known so far.
 #[derive(Clone, Copy)]
 struct Register {
@@ -19,23 +22,23 @@ struct Register {
 pub fn read_clocked_vcd(input: &[u8]) -> u32 {
     let mut rows = [0u64; 160];
     let h = header::read_header(input, parser::start(), &mut rows);
-    let clock = wire(input, &rows, h.count, b"top clock");
-    let data = wire(input, &rows, h.count, b"top data");
+    let Some(clock) = wire(input, &rows, h.count, b"top clock") else {
+        return 0;
+    };
+    let Some(data) = wire(input, &rows, h.count, b"top data") else {
+        return 0;
+    };
     decode(input, h.cursor, clock, data)
 }
 
-// The code of a wire; where there is none, the number that is no id.
-fn wire(input: &[u8], rows: &[u64], count: usize, path: &[u8]) -> IdCode {
-    let none = IdCode(0xffff_ffff_ffff_ffff);
+// The code of a wire.
+fn wire(input: &[u8], rows: &[u64], count: usize, path: &[u8]) -> Option<IdCode> {
     match find::find_var(input, rows, count, path) {
         FoundRow::At(n) => match rows::row_at(rows, n.0 as usize) {
-            Row::Var(_, v) => v.code,
-            Row::Scope(_, _, _) => none,
-            Row::Comment(_, _) => none,
-            Row::None => none,
+            Row::Var(_, v) => Some(v.code),
+            Row::Scope(_, _, _) | Row::Comment(_, _) | Row::None => None,
         },
-        FoundRow::None => none,
-        FoundRow::Refused(_) => none,
+        FoundRow::None | FoundRow::Refused(_) => None,
     }
 }
 
@@ -46,65 +49,38 @@ fn decode(input: &[u8], c: Cursor, clock: IdCode, data: IdCode) -> u32 {
         data: false,
         clock: false,
     };
-    let mut turns: u64 = 0;
-    while turns < 4294967296 {
-        turns += 1;
+    for _ in 0..MOST_COMMANDS {
         match parser::next_command(input, cur) {
             Next::Command(k, d) => {
                 cur = d;
                 reg = changed(reg, k, clock, data);
             }
-            Next::Refused(_, _, _) => {
-                return reg.bits;
-            }
-            Next::Done(_) => {
-                return reg.bits;
-            }
+            Next::Refused(_, _, _) | Next::Done(_) => return reg.bits,
         }
     }
     reg.bits
 }
 
 fn changed(r: Register, k: Command, clock: IdCode, data: IdCode) -> Register {
-    match k {
-        Command::ChangeScalar(i, v) => {
-            if i.0 == clock.0 {
-                return clocked(r, is_one(v));
-            }
-            if i.0 == data.0 {
-                return Register {
-                    bits: r.bits,
-                    data: is_one(v),
-                    clock: r.clock,
-                };
-            }
-            r
-        }
-        _ => r,
+    let Command::ChangeScalar(i, v) = k else {
+        return r;
+    };
+    let bit = matches!(v, Value::V1);
+    if i.0 == clock.0 {
+        clocked(r, bit)
+    } else if i.0 == data.0 {
+        Register { data: bit, ..r }
+    } else {
+        r
     }
 }
 
 // A falling edge shifts the data in from the left.
 fn clocked(r: Register, clock: bool) -> Register {
-    let mut bits = r.bits;
-    if r.clock && !clock {
-        bits = bits / 2;
-        if r.data {
-            bits = 0x8000_0000 + bits % 0x8000_0000;
-        }
-    }
-    Register {
-        bits,
-        data: r.data,
-        clock,
-    }
-}
-
-fn is_one(v: Value) -> bool {
-    match v {
-        Value::V1 => true,
-        Value::V0 => false,
-        Value::X => false,
-        Value::Z => false,
-    }
+    let bits = if r.clock && !clock {
+        (r.bits >> 1) | (u32::from(r.data) << 31)
+    } else {
+        r.bits
+    };
+    Register { bits, clock, ..r }
 }

@@ -21,15 +21,10 @@ const NAMES: [u8; 12] = *b"topclockdata";
 // Writes out a clock and a data signal.
 pub fn write_clocked_vcd(shift_reg: u32, out: &mut [u8]) -> usize {
     let d = header(out);
-    let d = initial(d, out);
-    let mut d = d;
-    let mut rest = shift_reg;
-    let mut t: u64 = 0;
-    while t < 256 {
-        let bit = rest % 2 != 0;
-        rest = rest / 2;
-        d = clocked_bit(d, out, t + 4, bit);
-        t += 8;
+    let mut d = initial(d, out);
+    for i in 0..32 {
+        let bit = (shift_reg >> i) & 1 != 0;
+        d = clocked_bit(d, out, 8 * i + 4, bit);
     }
     d.len
 }
@@ -94,51 +89,42 @@ fn change(d: Dump, out: &mut [u8], id: IdCode, v: Value) -> Dump {
 fn used(d: Dump, out: &[u8]) -> usize
     ensures { result ≤ length out.now }
 {
-    if out.len() < d.len {
-        return out.len();
-    }
-    d.len
+    text::least(d.len, out.len())
 }
 
 // One function acts for all commands but those whose ids or types the writer chooses.
 fn put(d: Dump, out: &mut [u8], k: Command) -> Dump {
     let at = used(d, out);
-    let w = d.writer;
-    accepted(d, w.command(&NAMES, k, &mut out[at..]))
+    accepted(d, d.writer.command(&NAMES, k, &mut out[at..]))
 }
 
 fn module(d: Dump, out: &mut [u8], name: Text) -> Dump {
     let at = used(d, out);
-    let w = d.writer;
-    accepted(d, w.add_module(&NAMES, name, &mut out[at..]))
+    accepted(d, d.writer.add_module(&NAMES, name, &mut out[at..]))
 }
 
 fn wire(d: Dump, out: &mut [u8], name: Text) -> Dump {
     let at = used(d, out);
-    let w = d.writer;
-    added(d, w.add_wire(&NAMES, 1, name, &mut out[at..]))
+    added(d, d.writer.add_wire(&NAMES, 1, name, &mut out[at..]))
 }
 
 // A refused call leaves the dump as it is.
 fn accepted(d: Dump, w: Written) -> Dump {
     match w {
-        Written::Bytes(n, writer) => grown(d, n, writer),
-        Written::Refused(_) => d,
+        Ok((n, writer)) => grown(d, n, writer),
+        Err(_) => d,
     }
 }
 
 fn added(d: Dump, w: Added) -> Dump {
     match w {
-        Added::Bytes(n, writer, _) => grown(d, n, writer),
-        Added::Refused(_) => d,
+        Ok((n, writer, _)) => grown(d, n, writer),
+        Err(_) => d,
     }
 }
 
 fn grown(d: Dump, n: usize, writer: Writer) -> Dump {
-    if 4096 < d.len {
-        return d;
-    }
-    if 4096 < n {
+    if 4096 < d.len || 4096 < n {
         return d;
     }
     Dump {

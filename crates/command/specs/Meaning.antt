@@ -1,5 +1,5 @@
 -- What a command means: its texts as bytes, its vectors as values.
-use Rattle.std.specs.Prelude.{ℕ, List, map}
+use Rattle.std.specs.Prelude.{ℕ, List, map, Option, Some, None}
 use Rattle.idcode.specs.declared.IdCode.{IdCode}
 use Rattle.scope.specs.declared.ReferenceIndex.{ReferenceIndex}
 use Rattle.scope.specs.declared.ScopeType.{ScopeType}
@@ -9,7 +9,6 @@ use Rattle.timescale.specs.declared.TimescaleUnit.{TimescaleUnit}
 use Rattle.value.specs.Values.{lower}
 use Rattle.value.specs.declared.Value.{Value}
 use Rattle.command.specs.declared.Command.{Command}
-use Rattle.command.specs.declared.Open.{Open}
 use Rattle.command.specs.declared.SimulationCommand.{SimulationCommand}
 use Rattle.command.specs.declared.Word.{Word}
 
@@ -57,7 +56,7 @@ meaning s (Command.Begin k) = begin k
 meaning s (Command.End k) = end k
 
 -- the simulation command that is open after a command
-abbrev pub open_after : Meaning → Open → Open
+abbrev pub open_after : Meaning → Option SimulationCommand → Option SimulationCommand
 open_after (remark k t) o = o
 open_after (timescale n u) o = o
 open_after (scope_def k t) o = o
@@ -66,8 +65,8 @@ open_after (var_def k n i t x) o = o
 open_after enddefinitions o = o
 open_after (timestamp t) o = o
 open_after (change i v) o = o
-open_after (begin k) o = Open.Of k
-open_after (end k) o = Open.None
+open_after (begin k) o = Some k
+open_after (end k) o = None
 
 -- the word of a remark
 abbrev pub remark_word : Remark → Word

@@ -1,7 +1,11 @@
 -- The page's number of each refusal.
-use Rattle.std.specs.Prelude.{ℕ}
+use Rattle.std.specs.Prelude.{Result, ℕ}
 use Rattle.idcode.specs.declared.InvalidIdCode.{InvalidIdCode}
 use Rattle.command.specs.declared.Refusal.{Refusal}
+
+-- how reading many commands ends: as it should, or by a refusal and the line of it
+abbrev pub Ended : Type 0
+Ended = Result (Unit {0}) (Refusal × ℕ)
 
 abbrev pub number_of : Refusal → ℕ
 number_of Refusal.UnexpectedEof = 1

@@ -1,9 +1,8 @@
 -- The words after `$` and the closing mark, said once for reading and for writing.
-use Rattle.std.specs.Prelude.{ℕ, cond, List, [], ◌∷◌, length}
+use Rattle.std.specs.Prelude.{ℕ, cond, List, [], ◌∷◌, length, Option, Some, None}
 use Prim.Native.String.{String}
 use Rattle.text.specs.Bytes.{bytes, holds, up_to}
 use Rattle.text.specs.Names.{lookup}
-use Rattle.text.specs.declared.Found.{Found}
 use Rattle.command.specs.declared.SimulationCommand.{SimulationCommand}
 use Rattle.command.specs.declared.Word.{Word}
 
@@ -49,5 +48,5 @@ abbrev pub end_mark : List ℕ
 end_mark = spoken Word.End
 
 -- the place of the first one
-unfoldable pub first_end : List ℕ → Found
-first_end s = cond (holds end_mark s) (Found.At (length (up_to end_mark s))) Found.Nothing
+unfoldable pub first_end : List ℕ → Option ℕ
+first_end s = cond (holds end_mark s) (Some (length (up_to end_mark s))) None

@@ -12,7 +12,7 @@ ghost use Rattle.command.specs.Numbers.{sim_number, sim_of};
 
 use idcode::{IdCode, InvalidIdCode};
 use scope::{ReferenceIndex, ScopeType, VarType};
-use text::{Found, Spelled, Text};
+use text::{Spelled, Text};
 use timescale::TimescaleUnit;
 use value::Value;
 
@@ -49,16 +49,9 @@ pub enum SimulationCommand {
     Dumpvars,
 }
 
-// The simulation command that is open.
-#[derive(Clone, Copy)]
-pub enum Open {
-    None,
-    Of(SimulationCommand),
-}
-
 #[derive(Clone, Copy)]
 pub enum Refusal {
-    UnexpectedEof,
+    UnexpectedEof = 1,
     InvalidUtf8,
     UnexpectedCharacter,
     TokenTooLong,
@@ -84,6 +77,9 @@ pub enum Refusal {
     ListFull,
     BadPlace,
 }
+
+// How reading many commands ended: as it should, or by a refusal and the line of it.
+pub type Ended = Result<(), (Refusal, u64)>;
 
 // The words after `$`, compared in reading and written by the writer.
 pub const COMMENT: [u8; 7] = *b"comment";
@@ -130,6 +126,7 @@ pub enum Word {
 }
 
 impl Word {
+    #[tactic(auto, using(text::proofs::Names::hit, text::proofs::Names::miss, text::proofs::Names::ended))]
     pub fn from_str(s: &[u8]) -> Word
         ensures { result ≡ word_of s.now }
     {
@@ -149,6 +146,7 @@ impl Word {
     }
 
     // The words from the fifth on.
+    #[tactic(auto, using(text::proofs::Names::hit, text::proofs::Names::miss, text::proofs::Names::ended))]
     fn from_fifth(s: &[u8]) -> Word
         ensures { result ≡ lookup (drop 4 words) Word.Unknown s.now }
     {
@@ -168,6 +166,7 @@ impl Word {
     }
 
     // The words from the ninth on.
+    #[tactic(auto, using(text::proofs::Names::hit, text::proofs::Names::miss, text::proofs::Names::ended))]
     fn from_ninth(s: &[u8]) -> Word
         ensures { result ≡ lookup (drop 8 words) Word.Unknown s.now }
     {
@@ -192,33 +191,23 @@ impl Word {
 }
 
 // Whether the closing mark stands at i.
+#[tactic(auto, using(crate::proofs::Ends::at_place))]
 fn end_at(s: &[u8], i: usize) -> bool
     requires { i ≤ length s.now }
     ensures { result ≡ starts end_mark (drop i s.now) }
 {
-    if s.len() - i < 4 {
-        return false;
-    }
-    // Nearly every byte is turned away here.
-    if s[i] != b'$' {
-        return false;
-    }
-    let after = i + 4;
-    text::equals(&s[i..after], &END)
+    // Nearly every byte is turned away by its own test, before four are compared.
+    4 <= s.len() - i && s[i] == b'$' && text::equals(&s[i..i + 4], &END)
 }
 
 // The place of the first closing mark.
-pub fn find_end(s: &[u8]) -> Found
+pub fn find_end(s: &[u8]) -> Option<usize>
     ensures { result ≡ first_end s.now }
 {
-    let mut i = 0;
-    while i < s.len() {
-        if end_at(s, i) {
-            return Found::At(i);
-        }
-        i += 1;
+    match (0..s.len()).find(|&i| end_at(s, i)) {
+        Some(i) => Some(i),
+        None => None,
     }
-    Found::Nothing
 }
 
 impl SimulationCommand {
@@ -237,15 +226,11 @@ impl SimulationCommand {
     pub fn number(self) -> u64
         ensures { result ≡ sim_number self }
     {
-        match self {
-            SimulationCommand::Dumpall => 0,
-            SimulationCommand::Dumpoff => 1,
-            SimulationCommand::Dumpon => 2,
-            SimulationCommand::Dumpvars => 3,
-        }
+        self as u64
     }
 
     // The command of a number; numbers past the last mean the last.
+    #[tactic(auto, unfolding(crate::specs::Numbers::sim_of))]
     pub fn from_number(n: u64) -> SimulationCommand
         ensures { result ≡ sim_of n }
     {
@@ -274,32 +259,7 @@ impl Refusal {
     pub fn number(self) -> u64
         ensures { result ≡ number_of self }
     {
-        match self {
-            Refusal::UnexpectedEof => 1,
-            Refusal::InvalidUtf8 => 2,
-            Refusal::UnexpectedCharacter => 3,
-            Refusal::TokenTooLong => 4,
-            Refusal::ExpectedEndCommand => 5,
-            Refusal::UnmatchedEnd => 6,
-            Refusal::UnknownCommand => 7,
-            Refusal::UnexpectedHeaderCommand => 8,
-            Refusal::ParseIntError => 9,
-            Refusal::ParseFloatError => 10,
-            Refusal::InvalidTimescaleUnit => 11,
-            Refusal::InvalidScopeType => 12,
-            Refusal::InvalidVarType => 13,
-            Refusal::InvalidReferenceIndex => 14,
-            Refusal::InvalidValueChar => 15,
-            Refusal::IdEmpty => 16,
-            Refusal::IdInvalidChars => 17,
-            Refusal::IdTooLong => 18,
-            Refusal::TooDeep => 19,
-            Refusal::TableFull => 20,
-            Refusal::NoRoom => 21,
-            Refusal::NotWritable => 22,
-            Refusal::BadTable => 23,
-            Refusal::ListFull => 24,
-            Refusal::BadPlace => 25,
-        }
+        // The refusals stand in the page's order, the first at 1.
+        self as u64
     }
 }

@@ -1,28 +1,23 @@
 -- Words stored in a buffer one after the other from its start are their concatenation at its start; so is one that a call put into a
 -- part of the buffer, with what is stored before and after it.
-use Prim.Native.Nat.{ℕ, zero, suc, ◌+◌, ◌-◌, ◌≤◌, ◌<◌}
+use Rattle.std.specs.Prelude.{Option, Some, None}
+use Prim.Native.Nat.{ℕ, suc, ◌+◌, ◌-◌, ◌≤◌, ◌<◌}
 use mathlib.Core.Path.{◌≡◌, refl, sym, ap, ◌∙◌}
 use mathlib.Core.Bool.{Bool, true, false, not}
 use mathlib.Core.List.{List, [], ◌∷◌, ◌++◌, append_assoc, append-nil}
 use native.Mathlib.Nat.{add-zero, zero-add, add_assoc}
 use native.Mathlib.Numerals.{add-one}
 use native.Mathlib.Omega.{arith}
-use borrow.Author.Tests.{le-leb, lt-leb, leb-true, leb-false, not-true, not-false}
+use borrow.Author.Tests.{le-leb, leb-true, leb-false, not-true, not-false}
 use lib.Dec.{leb}
 use borrow.Rule.Slice.PartMut.{put_mid}
-use lib.ListN.{length, take, drop, set, get_or, length-append, length-drop, take-append-drop}
-use lib.Seq.{take-append_seam, take-append-le, take-take, take_at, take-add, drop-append-le, drop-append-add, drop_at, drop-drop, get_or-drop, length-take-le, set_split, paste-suc, drop-cons}
+use lib.ListN.{length, take, drop, set, get_or, replicate, length-append, length-drop, length-replicate, take-append-drop}
+use lib.Seq.{take-append_seam, take-append-le, take-take, drop-append-le, drop-append-add, drop_at, drop-drop, length-take-le, set_split, paste-suc}
 use Rattle.text.specs.Texts.{spelled, text_in, put_answer, put_bytes}
-use Rattle.text.specs.declared.Placed.{Placed}
 use Rattle.text.specs.declared.Spelled.{Spelled}
 use Rattle.text.proofs.Lists.{by-test}
 use Rattle.text.proofs.Rows.{text_in_lem, no_room}
 use Rattle.emit.specs.Put.{concat, stored}
-
--- two tests that hold and fail together
-pub leb-same : (a b c d : ℕ) → (a ≤ b → c ≤ d) → (b < a → d < c) → leb a b ≡ leb c d
-leb-same a b c d p q =
-    by-test (leb a b) (λ e. e ∙ sym (le-leb c d (p (leb-true a b e)))) (λ e. e ∙ sym (lt-leb c d (q (leb-false a b e))))
 
 -- what the test for room says
 module _ {r : Bool} (n room : ℕ) (e : r ≡ leb n room) where
@@ -62,34 +57,19 @@ pub stored-step : (o w : List ℕ) (at i : ℕ) {out : List ℕ} {n v : ℕ} →
     → at + i < length o → i < length w → set out n v ≡ stored o at (take (i + 1) w)
 stored-step o w at i e p q h g = rw (e, p, q) (stored_more o w at i h g)
 
--- the n + 1 bytes of w from `from` on, in a row
-abbrev pub each : List ℕ → ℕ → List ℕ → ℕ → ℕ → List ℕ
-each o at w from zero = set o at (get_or w from 0)
-each o at w from (suc n) = set (each o at w from n) (at + suc n) (get_or w (from + suc n) 0)
+-- a word that was copied into the part of its length
+pub stored_mid : (o w : List ℕ) (at e : ℕ) {made : List ℕ} → made ≡ w → e ≡ at + length w → put_mid at (e - at) o made ≡ stored o at w
+unfolding stored
+stored_mid o w at e m h =
+    let k : e - at ≡ length w = omega arith in
+    rw (m, k) (ap (λ (l : List ℕ). take at o ++ (w ++ l)) (drop-drop (length w) at o))
 
-pub each-stored : (o w : List ℕ) (at from n : ℕ) → at + n < length o → from + n < length w
-    → each o at w from n ≡ stored o at (take (suc n) (drop from w))
-each-stored o w at from zero h g =
-    let v : get_or (drop from w) 0 0 ≡ get_or w from 0 = get_or-drop from w 0 0 ∙ rw (add-zero from) in
-    stored-step o (drop from w) at 0 (stored-none o at) (sym (add-zero at)) (sym v) h (simp length-drop (omega arith))
-each-stored o w at from (suc n) h g =
-    let e = each-stored o w at from n (omega arith) (omega arith) in
-    rw (add-one (suc n)) at (stored-step o (drop from w) at (suc n) e refl (sym (get_or-drop from w (suc n) 0)) h (simp length-drop (omega arith)))
-
--- the n bytes of w from `from + k` on, one by one
-abbrev pub row : List ℕ → ℕ → ℕ → ℕ → List ℕ
-row w from k zero = []
-row w from k (suc n) = get_or w (from + k) 0 ∷ row w from (suc k) n
-
-row_is : (w : List ℕ) (from k n : ℕ) → from + k + n ≤ length w → take n (drop (from + k) w) ≡ row w from k n
-row_is w from k zero h = refl
-row_is w from k (suc n) h =
-    let e : suc (from + k) ≡ from + suc k = omega arith in
-    rw (drop-cons w (from + k) 0 (omega arith), e) (ap (λ (l : List ℕ). get_or w (from + k) 0 ∷ l) (row_is w from (suc k) n (omega arith)))
-
--- eight bytes of a word
-pub eight-from : (w : List ℕ) (from : ℕ) → from + 8 ≤ length w → take 8 (drop from w) ≡ get_or w from 0 ∷ row w from 1 7
-eight-from w from h = rw (add-zero from) at (row_is w from 0 8 (omega arith))
+-- a part of n bytes that was filled with one
+pub stored_filled : (o : List ℕ) (at e n b : ℕ) {made : List ℕ} → made ≡ replicate (length (take (e - at) (drop at o))) b → e ≡ at + n → e ≤ length o
+    → put_mid at (e - at) o made ≡ stored o at (replicate n b)
+stored_filled o at e n b m h k =
+    let l : length (take (e - at) (drop at o)) ≡ n = length-take-le (e - at) (drop at o) (simp length-drop (omega arith)) ∙ omega arith in
+    stored_mid o (replicate n b) at e (rw l at m) (simp length-replicate h)
 
 -- ---- a run of words, each from where the last one ended: what it leaves, and where it ends
 abbrev pub puts : List ℕ → ℕ → List (List ℕ) → List ℕ
@@ -148,17 +128,17 @@ module _ (o : List ℕ) where
 
 -- ---- how they are answered and left
 -- a text of n bytes at the start
-pub standing : (t o : List ℕ) (n : ℕ) → length t ≡ n → n ≤ length o → {r : Placed} {left : List ℕ}
-    → (r ≡ Placed.Count n) × (left ≡ stored o 0 t) → (r ≡ put_answer t o) × (left ≡ put_bytes t o)
+pub standing : (t o : List ℕ) (n : ℕ) → length t ≡ n → n ≤ length o → {r : Option ℕ} {left : List ℕ}
+    → (r ≡ Some n) × (left ≡ stored o 0 t) → (r ≡ put_answer t o) × (left ≡ put_bytes t o)
 unfolding put_answer put_bytes stored
-standing t o n l h e = rw (le-leb (length t) (length o) (omega arith)) (e.0 ∙ ap Placed.Count (sym l), e.1 ∙ rw (zero-add (length t)))
+standing t o n l h e = rw (le-leb (length t) (length o) (omega arith)) (e.0 ∙ ap Some (sym l), e.1 ∙ rw (zero-add (length t)))
 
 module _ (w : List ℕ) (ws : List (List ℕ)) (o : List ℕ) where
-  pub lay-none : length o < total (length w) ws → (Placed.NoRoom ≡ put_answer (concat (w ∷ ws)) o) × (o ≡ put_bytes (concat (w ∷ ws)) o)
+  pub lay-none : length o < total (length w) ws → (None ≡ put_answer (concat (w ∷ ws)) o) × (o ≡ put_bytes (concat (w ∷ ws)) o)
   lay-none h = no_room (concat (w ∷ ws)) o (omega (arith, total-is ws (length w), length-append w (concat ws)))
 
   pub lay_done : {n : ℕ} {left : List ℕ} → total (length w) ws ≤ length o → (n ≡ length (concat (w ∷ ws))) × (left ≡ stored o 0 (concat (w ∷ ws)))
-      → (Placed.Count n ≡ put_answer (concat (w ∷ ws)) o) × (left ≡ put_bytes (concat (w ∷ ws)) o)
+      → (Some n ≡ put_answer (concat (w ∷ ws)) o) × (left ≡ put_bytes (concat (w ∷ ws)) o)
   lay_done {n} h e =
       standing (concat (w ∷ ws)) o n (sym e.0) (omega (arith, total-is ws (length w), length-append w (concat ws), e.0)) (refl, e.1)
 
@@ -185,40 +165,6 @@ stored-before o p w at h =
       append_assoc p w (drop (m + length w) o),
     )
 
--- ---- a word over one that stands there in part
-stored-again : (o q r : List ℕ) (at : ℕ) → at ≤ length o → length q ≤ length r → stored (stored o at q) at r ≡ stored o at r
-unfolding stored
-stored-again o q r at h g =
-    let m : ℕ = at + length q in
-    let k : ℕ = length r - length q in
-    let n : length (take at o) ≡ at = length-take-le at o h in
-    let e : at + length r ≡ m + k = omega arith in
-    let tail : drop m ((take at o ++ q) ++ drop m o) ≡ drop m o = drop_at (take at o ++ q) (drop m o) m (length-append (take at o) q ∙ rw n) in
-    rw (
-      take_at (take at o) (q ++ drop m o) at n,
-      ← append_assoc (take at o) q (drop m o),
-      e,
-      ← drop-drop k m (take at o ++ q ++ drop m o),
-      tail,
-      drop-drop k m o,
-    )
-
--- the n bytes of w from k on, over those of its first i that are there
-pub stored-over : (o w : List ℕ) (at i k n : ℕ) → at + i ≤ length o → k ≤ i → i ≤ k + n → k + n ≤ length w
-    → stored (stored o at (take i w)) (at + k) (take n (drop k w)) ≡ stored o at (take (k + n) w)
-stored-over o w at i k n h a b g =
-    let m : ℕ = i - k in
-    let e : i ≡ k + m = omega arith in
-    let p : List ℕ = take k w in
-    let q : List ℕ = take m (drop k w) in
-    let r : List ℕ = take n (drop k w) in
-    let lp : length p ≡ k = length-take-le k w (omega arith) in
-    let lq : length q ≡ m = length-take-le m (drop k w) (simp length-drop (omega arith)) in
-    let lr : length r ≡ n = length-take-le n (drop k w) (simp length-drop (omega arith)) in
-    let next = stored_next o at (omega arith) p in
-    let again = stored-again (stored o at p) q r (at + length p) (rw (stored-length o at p (omega arith)) (omega arith)) (omega arith) in
-    rw (e, take-add k m w, take-add k n w) (rw (next q, next r, lp) at again)
-
 -- ---- a word that a call put at the start of the k bytes from `at` on
 module _ (t o : List ℕ) (at k : ℕ) (h : at + k ≤ length o) where
   size : length (take k (drop at o)) ≡ k
@@ -230,15 +176,15 @@ module _ (t o : List ℕ) (at k : ℕ) (h : at + k ≤ length o) where
       sym (drop-append-le (length t) (take k (drop at o)) (drop k (drop at o)) (omega (arith, size)))
       ∙ rw (take-append-drop k (drop at o), drop-drop (length t) at o)
 
-  module _ {x : Placed} {ys : List ℕ} (e : (x ≡ put_answer t (take k (drop at o))) × (ys ≡ put_bytes t (take k (drop at o)))) where
-    pub part-put : (n : ℕ) → x ≡ Placed.Count n → (n ≡ length t) × (length t ≤ k) × (put_mid at k o ys ≡ stored o at t)
+  module _ {x : Option ℕ} {ys : List ℕ} (e : (x ≡ put_answer t (take k (drop at o))) × (ys ≡ put_bytes t (take k (drop at o)))) where
+    pub part-put : (n : ℕ) → x ≡ Some n → (n ≡ length t) × (length t ≤ k) × (put_mid at k o ys ≡ stored o at t)
     unfolding put_answer put_bytes stored
     part-put n q =
         by-test (leb (length t) k)
         (λ y. (cc (rw (size, y) at e.0), leb-true _ _ y, rw (e.1, size, y, append_assoc t (drop (length t) (take k (drop at o))) (drop k (drop at o)), rest (leb-true _ _ y))))
         (λ y. absurd (let z : ◌≡◌ {A = ℕ} 0 1 = cc (rw (size, y) at e.0) in omega arith))
 
-    pub part_none : x ≡ Placed.NoRoom → (k < length t) × (put_mid at k o ys ≡ o)
+    pub part_none : x ≡ None → (k < length t) × (put_mid at k o ys ≡ o)
     unfolding put_answer put_bytes
     part_none q =
         by-test (leb (length t) k)

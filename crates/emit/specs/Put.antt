@@ -1,9 +1,8 @@
 -- Texts put into a buffer, and the three that are put most: timestamps, and changes of scalars and vectors.
-use Rattle.std.specs.Prelude.{ℕ, ◌+◌, ◌≤◌, List, [], ◌∷◌, ◌++◌, map, length, take, drop, set}
+use Rattle.std.specs.Prelude.{ℕ, ◌+◌, ◌≤◌, List, [], ◌∷◌, ◌++◌, map, length, take, drop, set, Option, Some, None}
 use Rattle.idcode.specs.Id.{id_text}
 use Rattle.number.specs.Decimal.{decimal_of}
 use Rattle.text.specs.Bytes.{bytes}
-use Rattle.text.specs.declared.Placed.{Placed}
 use Rattle.value.specs.Values.{lower}
 
 -- words joined
@@ -26,14 +25,14 @@ vector_text v id = concat (bytes "b" ∷ map lower v ∷ bytes " " ∷ id_text i
 
 -- ---- what the private `close` asks and leaves
 -- a byte is left before and after what p says to stand
-abbrev pub Inside : Placed → ℕ → Type 0
-Inside (Placed.Count n) len = n + 2 ≤ len
-Inside Placed.NoRoom len = Unit {0}
+abbrev pub Inside : Option ℕ → ℕ → Type 0
+Inside (Some n) len = n + 2 ≤ len
+Inside None len = Unit {0}
 
-abbrev pub closed_answer : Placed → Placed
-closed_answer (Placed.Count n) = Placed.Count (n + 2)
-closed_answer Placed.NoRoom = Placed.NoRoom
+abbrev pub closed_answer : Option ℕ → Option ℕ
+closed_answer (Some n) = Some (n + 2)
+closed_answer None = None
 
-abbrev pub closed_bytes : ℕ → Placed → List ℕ → List ℕ
-closed_bytes first (Placed.Count n) o = set (set o 0 first) (n + 1) 10
-closed_bytes first Placed.NoRoom o = o
+abbrev pub closed_bytes : ℕ → Option ℕ → List ℕ → List ℕ
+closed_bytes first (Some n) o = set (set o 0 first) (n + 1) 10
+closed_bytes first None o = o

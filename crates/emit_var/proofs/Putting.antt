@@ -1,5 +1,6 @@
 -- Texts put one after the other into an output, a text that a call puts into the bytes after a place, and how long a definition is.
 -- Assumes nothing.
+use Rattle.std.specs.Prelude.{Option, Some, None}
 use Prim.Native.Nat.{ℕ, ◌+◌, ◌-◌, ◌/◌, ◌%◌, ◌^◌, ◌≤◌, ◌<◌}
 use mathlib.Core.Path.{◌≡◌, refl, sym, ap, subst, ◌∙◌}
 use mathlib.Core.List.{List, [], ◌∷◌, ◌++◌, append_assoc}
@@ -13,7 +14,6 @@ use denote.Laws.{Is}
 use lib.ListN.{length, take, drop, length-append}
 use lib.Seq.{length-take-le, take-append_seam, drop-append_seam, drop-append-add}
 use Rattle.text.specs.Texts.{put_answer, put_bytes}
-use Rattle.text.specs.declared.Placed.{Placed}
 use Rattle.number.specs.Decimal.{decimal_of}
 use Rattle.number.proofs.Writing.{one-digit, more-digits, short}
 use Rattle.idcode.specs.declared.IdCode.{IdCode}
@@ -74,19 +74,19 @@ module _ {o whole o' : List ℕ} {at n : ℕ} (w rest : List ℕ) (d : Due o at 
       }
 
 -- ---- a text that a call puts at the start of the bytes after `at`, where it has room
-module _ (t o : List ℕ) (at : ℕ) (h : at + length t ≤ length o) {x : Placed} {ys : List ℕ}
+module _ (t o : List ℕ) (at : ℕ) (h : at + length t ≤ length o) {x : Option ℕ} {ys : List ℕ}
     (e : (x ≡ put_answer t (take (length o - at) (drop at o))) × (ys ≡ put_bytes t (take (length o - at) (drop at o)))) where
-  pub part_count : (n : ℕ) → x ≡ Placed.Count n → Puts o at t (at + n) (put_mid at (length o - at) o ys)
+  pub part_count : (n : ℕ) → x ≡ Some n → Puts o at t (at + n) (put_mid at (length o - at) o ys)
   part_count n q = let y = part-put t o at (length o - at) (omega arith) e n q in (ap (λ (m : ℕ). at + m) y.0, y.2)
 
-  pub part-full : x ≡ Placed.NoRoom → ⊥
+  pub part-full : x ≡ None → ⊥
   part-full q = omega (arith, (part_none t o at (length o - at) (omega arith) e q).0)
 
 -- ---- a text put at the start, where it has room
 pub placed : {r : ℕ} {o' : List ℕ} (w o : List ℕ) → length w ≤ length o → Puts o 0 w r o'
-    → (Placed.Count r ≡ put_answer w o) × (o' ≡ put_bytes w o)
+    → (Some r ≡ put_answer w o) × (o' ≡ put_bytes w o)
 unfolding put_answer put_bytes stored
-placed w o h p = rw (le-leb (length w) (length o) h) (ap Placed.Count (p.0 ∙ zero-add (length w)), p.1 ∙ rw (zero-add (length w)))
+placed w o h p = rw (le-leb (length w) (length o) h) (ap Some (p.0 ∙ zero-add (length w)), p.1 ∙ rw (zero-add (length w)))
 
 -- ---- how long a definition is
 -- the numbers of an index have 32 bits by their type

@@ -13,7 +13,7 @@ ghost use Rattle.emit_var.specs.Define.{indexed as indexed_text, definition, var
 
 use idcode::IdCode;
 use scope::{ReferenceIndex, VarType};
-use text::{Placed, Spelled};
+use text::Spelled;
 
 // Type, width, id and index of a definition, with what stands around them, have no more bytes than this.
 const MOST: usize = 96;
@@ -41,7 +41,7 @@ pub fn emit_var(
     name: &[u8],
     x: ReferenceIndex,
     out: &mut [u8],
-) -> Placed
+) -> Option<usize>
     ensures { (result ≡ put_answer (var_text t width id name.now x) out.old) × (out.new ≡ put_bytes (var_text t width id name.now x) out.old) }
 {
     if out.len() < MOST {
@@ -50,7 +50,7 @@ pub fn emit_var(
     if out.len() - MOST < name.len() {
         return emit_near(t, width, id, &name[0..], x, out);
     }
-    Placed::Count(put_var(t, width, id, name, x, out))
+    Some(put_var(t, width, id, name, x, out))
 }
 
 // A definition where there may be no room: the words are made first.
@@ -61,7 +61,7 @@ fn emit_near(
     name: &[u8],
     x: ReferenceIndex,
     out: &mut [u8],
-) -> Placed
+) -> Option<usize>
     ensures { (result ≡ put_answer (var_text t width id name.now x) out.old) × (out.new ≡ put_bytes (var_text t width id name.now x) out.old) }
 {
     let k = t.spell();
@@ -90,11 +90,11 @@ fn emit_words(
     name: &[u8],
     index: &[u8],
     out: &mut [u8],
-) -> Placed
+) -> Option<usize>
     ensures { (result ≡ put_answer (concat (definition kind.now width.now id.now name.now index.now)) out.old) × (out.new ≡ put_bytes (concat (definition kind.now width.now id.now name.now index.now)) out.old) }
 {
     if out.len() < 14 {
-        return Placed::NoRoom;
+        return None;
     }
     let room = out.len() - 14;
     if !emit::fits(
@@ -105,9 +105,9 @@ fn emit_words(
         name.len(),
         index.len(),
     ) {
-        return Placed::NoRoom;
+        return None;
     }
-    Placed::Count(put_words(out, kind, width, id, name, index))
+    Some(put_words(out, kind, width, id, name, index))
 }
 
 // Puts the words one after the other.
@@ -252,8 +252,8 @@ fn put_number(out: &mut [u8], at: usize, n: u64) -> usize
         return put_byte(out, o, 48 + (n % 10) as u8);
     }
     match number::put_decimal(n, &mut out[at..]) {
-        Placed::Count(k) => at + k,
-        Placed::NoRoom => at,
+        Some(k) => at + k,
+        None => at,
     }
 }
 
@@ -262,8 +262,8 @@ fn put_id(out: &mut [u8], at: usize, id: IdCode) -> usize
     ensures { Puts out.old at (id_text id.0) result out.new }
 {
     match id.put(&mut out[at..]) {
-        Placed::Count(k) => at + k,
-        Placed::NoRoom => at,
+        Some(k) => at + k,
+        None => at,
     }
 }
 

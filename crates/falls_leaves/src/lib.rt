@@ -9,8 +9,7 @@ ghost use Rattle.white_space.specs.WhiteSpace.{trimmed};
 ghost use Rattle.number.specs.Decimal.{parse_below, narrow};
 ghost use Rattle.real.specs.Real.{is_real};
 
-use number::Number32;
-use text::{Placed, Text};
+use text::Text;
 
 pub fn whitespace_byte(b: u8) -> bool
     ensures { result ≡ is_blank b }
@@ -18,7 +17,7 @@ pub fn whitespace_byte(b: u8) -> bool
     text::whitespace_byte(b)
 }
 
-pub fn put_text(s: &[u8], out: &mut [u8]) -> Placed
+pub fn put_text(s: &[u8], out: &mut [u8]) -> Option<usize>
     ensures { (result ≡ put_answer s.now out.old) × (out.new ≡ put_bytes s.now out.old) }
 {
     text::put_text(s, out)
@@ -36,7 +35,7 @@ pub fn trim(s: &[u8]) -> Text
     white_space::trim(s)
 }
 
-pub fn parse_u32(s: &[u8]) -> Number32
+pub fn parse_u32(s: &[u8]) -> Option<u32>
     ensures { result ≡ narrow (parse_below (2 ^ 32) s.now) }
 {
     number::parse_u32(s)

@@ -6,11 +6,11 @@ ghost use Rattle.change.specs.Rows.{change_at, filled};
 ghost use Rattle.listing.specs.Listing.{list_of, list_on_of, answer_of};
 ghost use Rattle.widen.specs.Widen.{widen_answer, widen_bytes};
 
+use command::{Refusal, Time};
 use idcode::IdCode;
-use listing::{Change, ListAnswer, Since};
+use listing::{Change, ListAnswer};
 use text::Text;
 use token::Cursor;
-use widen::Widened;
 
 pub fn list(input: &[u8], c: Cursor, code: IdCode, rows: &mut [u64]) -> ListAnswer
     ensures answer { result ≡ answer_of (list_of input.now c code rows.old) }
@@ -19,7 +19,13 @@ pub fn list(input: &[u8], c: Cursor, code: IdCode, rows: &mut [u64]) -> ListAnsw
     listing::list(input, c, code, rows)
 }
 
-pub fn list_on(input: &[u8], c: Cursor, since: Since, code: IdCode, rows: &mut [u64]) -> ListAnswer
+pub fn list_on(
+    input: &[u8],
+    c: Cursor,
+    since: Option<Time>,
+    code: IdCode,
+    rows: &mut [u64],
+) -> ListAnswer
     ensures answer { result ≡ answer_of (list_on_of input.now c since code rows.old) }
     ensures table { rows.new ≡ filled (list_on_of input.now c since code rows.old).rows rows.old }
 {
@@ -32,7 +38,7 @@ pub fn change_at(rows: &[u64], i: usize) -> Change
     listing::change_at(rows, i)
 }
 
-pub fn widen(input: &[u8], t: Text, width: u32, out: &mut [u8]) -> Widened
+pub fn widen(input: &[u8], t: Text, width: u32, out: &mut [u8]) -> Result<usize, Refusal>
     ensures { (result ≡ widen_answer input.now t width out.old) × (out.new ≡ widen_bytes input.now t width out.old) }
 {
     widen::widen(input, t, width, out)

@@ -1,4 +1,5 @@
 -- Of each wrong reader one input shows that it does not meet the statement, computed: two timestamps. Assumes nothing.
+use Rattle.std.specs.Prelude.{None}
 use Prim.Native.Nat.{ℕ}
 use mathlib.Core.Path.{◌≡◌, refl}
 use mathlib.Core.Bool.{false}
@@ -9,10 +10,9 @@ use Rattle.text.specs.Texts.{part}
 use Rattle.utf8.specs.Utf8.{lies, due_after, well_formed, valid_utf8}
 use Rattle.number.specs.Decimal.{is_digit, all_digits, value, number_from, digits_below, unsigned, parse_below}
 use Rattle.command.specs.declared.Command.{Command}
-use Rattle.command.specs.declared.Open.{Open}
 use Rattle.parser_part.specs.Plan.{run, kind_of}
 use Rattle.parser.specs.Next.{is_good, found, next_from, fresh}
-use Rattle.parser_part.specs.declared.Next.{Next}
+use Rattle.parser.specs.declared.Next.{Next}
 use Rattle.token.specs.Read.{byte_read, skipped, gap, word, after, word_token, word_here, token}
 use Rattle.token.specs.declared.Cursor.{Cursor}
 use Rattle.falls_read.specs.Stated.{ReadersFall}
@@ -21,7 +21,7 @@ abbrev input : List ℕ
 input = bytes "#1 #2 "
 
 abbrev at : ℕ → Cursor
-at p = record { place = p; line = 1; pending = false; sim = Open.None }
+at p = record { place = p; line = 1; pending = false; sim = None }
 
 abbrev time : ℕ → Cursor → Next
 time n d = Next.Command (Command.Timestamp (record { 0 = n })) d

@@ -3,7 +3,7 @@
 use Rattle.std.specs.Prelude.{ℕ, ◌≡◌, cond, List, eqb}
 use Rattle.command.specs.declared.Refusal.{Refusal}
 use Rattle.parser.specs.Next.{next_from}
-use Rattle.parser_part.specs.declared.Next.{Next}
+use Rattle.parser.specs.declared.Next.{Next}
 use Rattle.token.specs.declared.Cursor.{Cursor}
 
 -- something for each input and cursor

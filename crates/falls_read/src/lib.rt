@@ -4,7 +4,7 @@
 ghost use Rattle.std.specs.Prelude.{◌≡◌};
 ghost use Rattle.parser.specs.Next.{next_from};
 
-use parser_part::Next;
+use parser::Next;
 use token::Cursor;
 
 pub fn next_command(input: &[u8], c: Cursor) -> Next

@@ -11,12 +11,12 @@ ghost use Rattle.scope.specs.Index.{parse_index};
 ghost use Rattle.command.specs.Refusals.{number_of};
 
 use command::Refusal;
-use idcode::{IdCode, Parsed};
-use scope::{ParsedIndex, ReferenceIndex, VarType};
+use idcode::{IdCode, InvalidIdCode};
+use scope::{ReferenceIndex, VarType};
 use text::Spelled;
-use value::{ParsedValue, Value};
+use value::Value;
 
-pub fn value_parse(v: u8) -> ParsedValue
+pub fn value_parse(v: u8) -> Option<Value>
     ensures { result ≡ value_of v }
 {
     Value::parse(v)
@@ -28,7 +28,7 @@ pub fn lowered(b: u8) -> u8
     value::vector::lowered(b)
 }
 
-pub fn id_from_str(s: &[u8]) -> Parsed
+pub fn id_from_str(s: &[u8]) -> Result<IdCode, InvalidIdCode>
     ensures { result ≡ parse_id s.now }
 {
     IdCode::from_str(s)
@@ -40,7 +40,7 @@ pub fn var_type_spell(t: VarType) -> Spelled
     t.spell()
 }
 
-pub fn index_from_str(s: &[u8]) -> ParsedIndex
+pub fn index_from_str(s: &[u8]) -> Option<ReferenceIndex>
     ensures { result ≡ parse_index s.now }
 {
     ReferenceIndex::from_str(s)

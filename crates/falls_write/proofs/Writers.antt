@@ -1,4 +1,5 @@
 -- Of each wrong writer one call shows that it does not meet the statement, computed: a timestamp into three bytes. Assumes nothing.
+use Rattle.std.specs.Prelude.{Ok}
 use Prim.Native.Nat.{ℕ}
 use mathlib.Core.Path.{◌≡◌, refl}
 use mathlib.Core.List.{List, [], ◌∷◌}
@@ -10,7 +11,6 @@ use Rattle.command.specs.declared.Command.{Command}
 use Rattle.command.specs.declared.Refusal.{Refusal}
 use Rattle.write.specs.Call.{outcome, call}
 use Rattle.write.specs.Layout.{layout, state_after, fresh}
-use Rattle.write.specs.declared.Written.{Written}
 use Rattle.falls_write.specs.Stated.{OfWrite, Writes, refused, WritersFall}
 
 abbrev one : Command
@@ -19,7 +19,7 @@ one = Command.Timestamp (record { 0 = 1 })
 abbrev room : List ℕ
 room = 0 ∷ 0 ∷ 0 ∷ []
 
-here : call fresh [] one room ≡ record { answer = Written.Bytes 3 fresh; left = bytes "#1\n" }
+here : call fresh [] one room ≡ record { answer = Ok (3, fresh); left = bytes "#1\n" }
 unfolding call outcome too_long layout state_after put_answer put_bytes digits_of
 here = refl
 

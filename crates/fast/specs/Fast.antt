@@ -1,15 +1,14 @@
 -- A hit of the fast path: the command that reading from there gives, wherever the lines stand. A miss says nothing.
-use Rattle.std.specs.Prelude.{◌≡◌, ℕ, ◌+◌, ◌-◌, ◌^◌, ◌<◌, ◌≤◌, true, List, length, slice_index}
+use Rattle.std.specs.Prelude.{◌≡◌, ℕ, ◌+◌, ◌-◌, ◌^◌, ◌<◌, ◌≤◌, true, List, length, slice_index, Some}
 use Rattle.text.specs.Texts.{part}
 use Rattle.text.specs.declared.Text.{Text}
 use Rattle.command.specs.declared.Command.{Command}
 use Rattle.parser.specs.Next.{next_from}
-use Rattle.parser_part.specs.declared.Next.{Next}
+use Rattle.parser.specs.declared.Next.{Next}
 use Rattle.token.specs.Flat.{word_read}
 use Rattle.token.specs.Read.{Valid}
 use Rattle.token.specs.declared.Cursor.{Cursor}
 use Rattle.value.specs.Values.{value_of, are_values}
-use Rattle.value.specs.declared.ParsedValue.{ParsedValue}
 use Rattle.value.specs.declared.Value.{Value}
 use Rattle.fast.specs.declared.Fast.{Fast}
 
@@ -22,7 +21,7 @@ pub record Reads (s : List ℕ) (at e : ℕ) (k : Command) : Type 0 where
 -- a change of a scalar, whose value the first byte means, of an id that has a text
 pub record ReadsScalar (s : List ℕ) (at e i : ℕ) : Type 0 where
   pub value : Value
-  pub means : value_of (slice_index s at) ≡ ParsedValue.Is value
+  pub means : value_of (slice_index s at) ≡ Some value
   pub id : i < 2 ^ 64 - 1
   pub change : Reads s at e (Command.ChangeScalar (record { 0 = i }) value)
 

@@ -12,7 +12,6 @@ ghost use Rattle.fast.specs.Fast.{Hits, Short, EightDigits};
 ghost use Rattle.text.specs.Texts.{limit};
 
 use parser_part::word;
-use parser_part::word::FastWord;
 
 // A hit, with the place of the blank that ends the command: a time; a change of a scalar with the id's code; or a change of a vector with
 // the id's code and the end of its values, which begin after the first byte.
@@ -31,8 +30,8 @@ pub fn parse_timestamp(input: &[u8], at: usize) -> Fast
     ensures { Hits input.now at result × Short at result }
 {
     match word::fast_number(input, at + 1) {
-        FastWord::Hit(t, end) => Fast::Time(t, end),
-        FastWord::Miss => Fast::Miss,
+        Some((t, end)) => Fast::Time(t, end),
+        None => Fast::Miss,
     }
 }
 
@@ -43,8 +42,8 @@ pub fn parse_scalar(input: &[u8], at: usize) -> Fast
     ensures { Hits input.now at result }
 {
     match word::fast_id(input, at + 1) {
-        FastWord::Hit(i, end) => Fast::Scalar(i, end),
-        FastWord::Miss => Fast::Miss,
+        Some((i, end)) => Fast::Scalar(i, end),
+        None => Fast::Miss,
     }
 }
 
@@ -66,8 +65,8 @@ pub fn parse_vector(input: &[u8], at: usize) -> Fast
         return Fast::Miss;
     }
     match word::fast_id(input, stop + 1) {
-        FastWord::Hit(i, end) => Fast::Vector(i, stop, end),
-        FastWord::Miss => Fast::Miss,
+        Some((i, end)) => Fast::Vector(i, stop, end),
+        None => Fast::Miss,
     }
 }
 

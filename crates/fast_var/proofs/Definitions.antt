@@ -1,17 +1,14 @@
 -- Reading a variable's definition part by part: spaces before a part are skipped on the same line, a word and a space after it leave
 -- the rest of the plan, the last word ends it; and the parts of a definition by these. Assumes nothing.
-use Rattle.std.proofs.Common.{◌≡◌, ℕ, zero, suc, ◌+◌, ◌-◌, ◌^◌, ◌<◌, ◌≤◌, true, ltb, List, [], ◌∷◌, length, get_or, drop, sym, refl, ap, ◌∙◌, add-zero, arith, lt-ltb}
+use Rattle.std.proofs.Common.{◌≡◌, ℕ, zero, suc, ◌+◌, ◌-◌, ◌^◌, ◌<◌, ◌≤◌, true, ltb, List, [], ◌∷◌, length, get_or, drop, sym, refl, ap, ◌∙◌, add-zero, arith, lt-ltb, Option, Some, None, Ok}
 use Rattle.text.specs.Bytes.{equal, starts, has, is_blank}
-use Rattle.command.specs.Words.{end_mark}
+use Rattle.command.specs.Words.{end_mark, word_of}
 use Rattle.text.specs.Names.{lookup}
 use Rattle.text.specs.declared.Text.{Text}
 use Rattle.text.proofs.Lists.{by-test}
 use Rattle.number.specs.Decimal.{all_digits, value, number_from, digits_below, unsigned, parse_below}
-use Rattle.number.specs.declared.Number.{Number}
 use Rattle.idcode.specs.Id.{parse_id}
 use Rattle.idcode.specs.declared.IdCode.{IdCode}
-use Rattle.idcode.specs.declared.Parsed.{Parsed}
-use Rattle.scope.specs.declared.ParsedVarType.{ParsedVarType}
 use Rattle.scope.specs.declared.ReferenceIndex.{ReferenceIndex}
 use Rattle.scope.specs.declared.Var.{Var}
 use Rattle.scope.specs.declared.VarType.{VarType}
@@ -22,20 +19,15 @@ use Rattle.token.specs.declared.Cursor.{Cursor}
 use Rattle.token.proofs.Reading.{place-step, valid-step, skip_step}
 use Rattle.parser.specs.Next.{next_from}
 use Rattle.parser_part.specs.Plan.{Plan, answer, a_token, a_word, run, var_def, var_of, var_id, var_name, var_end, last_of, var, word_plan, dollar, kind_of}
-use Rattle.command.specs.Words.{word_of}
 use Rattle.parser_part.specs.FastWord.{Whole}
 use Rattle.parser_part.specs.declared.Kind.{Kind}
-use Rattle.parser_part.specs.declared.Next.{Next}
+use Rattle.parser.specs.declared.Next.{Next}
 use Rattle.parser.proofs.Ahead.{valid-good}
-use Rattle.parser_part.proofs.Arms.{answered}
 use Rattle.parser_part.proofs.Hits.{Lone, whole-lone, text_at, word-here, word-part}
-use Rattle.parser_part.proofs.Kept.{token-valid}
-use Rattle.parser_part.proofs.Parts.{run-token, run-no-limit}
+use Rattle.parser_part.proofs.Kept.{token-next}
+use Rattle.parser_part.proofs.Parts.{run-answer, run-token, run-no-limit}
 use Rattle.fast.specs.Fast.{Reads}
 use Rattle.fast_var.specs.FastVar.{HitsVar, Gap, Worded, Begins, Ends, HitsType, IndexAt, variable, Carries, Goes}
-use Rattle.fast_var.specs.declared.FastIndex.{FastIndex}
-use Rattle.fast_var.specs.declared.FastType.{FastType}
-use Rattle.fast_var.specs.declared.FastVar.{FastVar}
 use Rattle.fast.proofs.Hits.{space-word, reads-kind}
 use Rattle.text.specs.Texts.{limit}
 
@@ -96,7 +88,7 @@ module _ {s : List ℕ} {at q : ℕ} (g : Gap s at q) where
         reads = λ c v p.
             let b = behind c v p in
             token-same s c b.to b.skips n f ∙ r.reads b.to b.valid b.there
-            ∙ ap (Next.Command k) (b.flat e (get_or s e 0));
+            ∙ ap (λ (d : Cursor). Ok (k, d)) (b.flat e (get_or s e 0));
       }
 
   reads-gap : {e : ℕ} {k : Command} → Reads s q e k → Reads s at e k
@@ -121,7 +113,7 @@ module _ {s : List ℕ} {c : Cursor} (v : Valid s c) {e : ℕ} (w : Lone s c.pla
   run-here f m = run-token s c (most n) f ∙ rw (word-here v w n few, word-part v w n few, m)
 
   valid-here : Valid s (word_read c e (get_or s e 0))
-  valid-here = token-valid s c v (most n) (word-here v w n few)
+  valid-here = token-next v (most n) refl (word-here v w n few)
 
 -- after spaces: a token and a space leave the rest of the plan; a token that is the last ends it
 module _ {s : List ℕ} {at q e : ℕ} (g : Gap s at q) (w : Lone s q e) (n : ℕ) (few : e ≤ q + n) (f : Text → List ℕ → Plan) where
@@ -136,7 +128,7 @@ module _ {s : List ℕ} {at q e : ℕ} (g : Gap s at q) (w : Lone s q e) (n : �
         reads = λ c v h.
             let x : Lone s c.place e = rw h w in
             run-here v x n (rw h few) f (rw h m) ∙ r.reads (word_read c e (get_or s e 0)) (valid-here v x n (rw h few)) refl
-            ∙ ap (Next.Command k) (rw space (space-word c e z (get_or s z 0)));
+            ∙ ap (λ (d : Cursor). Ok (k, d)) (rw space (space-word c e z (get_or s z 0)));
       })
 
   carries-last : {k : Command} → f (text_at q e) (word (drop q s)) ≡ answer k → Carries s at e (a_token (most n) f) k
@@ -145,7 +137,7 @@ module _ {s : List ℕ} {at q e : ℕ} (g : Gap s at q) (w : Lone s q e) (n : �
       (record {
         past = w.some;
         inside = w.inside;
-        reads = λ c v h. run-here v (rw h w) n (rw h few) f (rw h m) ∙ sym (answered s k);
+        reads = λ c v h. run-here v (rw h w) n (rw h few) f (rw h m) ∙ run-answer s _ k;
       })
 
 -- a word that must be UTF-8
@@ -154,9 +146,9 @@ module _ {s : List ℕ} {at q e : ℕ} (g : Gap s at q) (w : Worded s q e) (n : 
   carries-word : {z : ℕ} {k : Command} → Carries s (e + 1) z p k → Carries s at z (a_word (most n) f) k
   carries-word r = carries-token g (worded w) n few _ w.ended (rw w.text m) r
 
-  goes-word : (r : FastVar) → Goes s (e + 1) p r → Goes s at (a_word (most n) f) r
-  goes-word (FastVar.Hit v z) h = carries-word h
-  goes-word FastVar.Miss h = tt
+  goes-word : (r : Option (Var × ℕ)) → Goes s (e + 1) p r → Goes s at (a_word (most n) f) r
+  goes-word (Some (v, z)) h = carries-word h
+  goes-word None h = tt
 
 ends-word : {s : List ℕ} {at q : ℕ} → Gap s at q → Ends s q → (f : Text → List ℕ → Plan) {k : Command}
     → f (text_at q (q + 4)) end_mark ≡ answer k → Carries s at (q + 4) (a_word (most 32) f) k
@@ -167,7 +159,7 @@ none : {s : List ℕ} {at : ℕ} → at ≤ length s → Gap s at at
 none h = record { past = omega arith; inside = h; spaces = λ i l u. absurd (omega arith) }
 
 -- ---- a number below one limit, and below another that it keeps
-from_less : (a b v x : ℕ) (w : List ℕ) → number_from b v w ≡ Number.Is x → x < a → number_from a v w ≡ Number.Is x
+from_less : (a b v x : ℕ) (w : List ℕ) → number_from b v w ≡ Some x → x < a → number_from a v w ≡ Some x
 unfolding number_from
 from_less a b v x w e h =
     by-test (all_digits w)
@@ -181,12 +173,12 @@ from_less a b v x w e h =
     (λ t. let y = rw (d, t) at e in let z : ◌≡◌ {A = ℕ} 0 1 = cc in absurd (omega arith)))
     (λ d. let y = rw d at e in let z : ◌≡◌ {A = ℕ} 0 1 = cc in absurd (omega arith))
 
-digits-less : (a b x : ℕ) (w : List ℕ) → digits_below b w ≡ Number.Is x → x < a → digits_below a w ≡ Number.Is x
+digits-less : (a b x : ℕ) (w : List ℕ) → digits_below b w ≡ Some x → x < a → digits_below a w ≡ Some x
 unfolding digits_below
 digits-less a b x [] e h = let z : ◌≡◌ {A = ℕ} 0 1 = cc in absurd (omega arith)
 digits-less a b x (d ∷ w) e h = from_less a b 0 x (d ∷ w) e h
 
-below_less : (a b x : ℕ) (w : List ℕ) → parse_below b w ≡ Number.Is x → x < a → parse_below a w ≡ Number.Is x
+below_less : (a b x : ℕ) (w : List ℕ) → parse_below b w ≡ Some x → x < a → parse_below a w ≡ Some x
 unfolding parse_below
 below_less a b x w e h = digits-less a b x (unsigned w) e h
 
@@ -195,30 +187,30 @@ module _ {s : List ℕ} {at q e : ℕ} (g : Gap s at q) (w : Whole s q e) (space
   with-space : Worded s q e
   with-space = record { some = w.some; inside = w.inside; long = w.long; ended = space; text = w.text }
 
-  pub goes-size : (n : ℕ) → parse_below (2 ^ 64) (word (drop q s)) ≡ Number.Is n → n ≤ 4294967295 → (r : FastVar)
-      → Goes s (e + 1) (var_id k n) r → Goes s at (var_of (ParsedVarType.Is k)) r
+  pub goes-size : (n : ℕ) → parse_below (2 ^ 64) (word (drop q s)) ≡ Some n → n ≤ 4294967295 → (r : Option (Var × ℕ))
+      → Goes s (e + 1) (var_id k n) r → Goes s at (var_of (Some k)) r
   goes-size n p h = goes-word g with-space 32 w.few _ (rw (below_less (2 ^ 32) (2 ^ 64) n (word (drop q s)) p (omega arith)))
 
-  pub goes-code : (n : ℕ) (i : IdCode) → parse_id (word (drop q s)) ≡ Parsed.Code i → (r : FastVar)
+  pub goes-code : (n : ℕ) (i : IdCode) → parse_id (word (drop q s)) ≡ Ok i → (r : Option (Var × ℕ))
       → Goes s (e + 1) (var_name k n i) r → Goes s at (var_id k n) r
   goes-code n i p = goes-word g with-space 32 w.few _ (rw p)
 
 -- the plan carries the index apart from the variable, the code in it
 told : {s : List ℕ} {at e : ℕ} {p : Plan} (k : VarType) (n : ℕ) (i : IdCode) (t : Text) (x : ReferenceIndex) (v : Var)
-    → v ≡ variable k n i t x → Carries s at e p (var_def (variable k n i t ReferenceIndex.None) x) → Goes s at p (FastVar.Hit v e)
+    → v ≡ variable k n i t x → Carries s at e p (var_def (variable k n i t ReferenceIndex.None) x) → Goes s at p (Some (v, e))
 told k n i t x v m r = rw m r
 
 module _ {s : List ℕ} (k : VarType) (n : ℕ) (i : IdCode) where
   -- no index, and the last word
   ends-plain : (t : Text) {at last : ℕ} → Gap s at last → Ends s last → (v : Var) → v ≡ variable k n i t ReferenceIndex.None
-      → Goes s at (var_end (variable k n i t ReferenceIndex.None)) (FastVar.Hit v (last + 4))
+      → Goes s at (var_end (variable k n i t ReferenceIndex.None)) (Some (v, last + 4))
   unfolding starts equal
   ends-plain t g x v m = told k n i t ReferenceIndex.None v m (ends-word g x _ refl)
 
   -- an index, and the last word
-  pub ends-index : (t : Text) {at e last : ℕ} (x : ReferenceIndex) → at ≤ length s → IndexAt s at (FastIndex.Hit x e) → Gap s (e + 1) last
+  pub ends-index : (t : Text) {at e last : ℕ} (x : ReferenceIndex) → at ≤ length s → IndexAt s at (Some (x, e)) → Gap s (e + 1) last
       → Ends s last → (v : Var) → v ≡ variable k n i t x
-      → Goes s at (var_end (variable k n i t ReferenceIndex.None)) (FastVar.Hit v (last + 4))
+      → Goes s at (var_end (variable k n i t ReferenceIndex.None)) (Some (v, last + 4))
   unfolding equal
   ends-index t x h is g l v m =
       told k n i t x v m
@@ -227,20 +219,20 @@ module _ {s : List ℕ} (k : VarType) (n : ℕ) (i : IdCode) where
 
   -- the name, and spaces after it
   module _ {at q e last : ℕ} (g : Gap s at q) (w : Worded s q e) (short : length s ≤ limit) (a : Gap s (e + 1) last) where
-    pub goes-name : (r : FastVar) → Goes s last (var_end (variable k n i (text_at q e) ReferenceIndex.None)) r → Goes s at (var_name k n i) r
-    goes-name (FastVar.Hit v z) h =
+    pub goes-name : (r : Option (Var × ℕ)) → Goes s last (var_end (variable k n i (text_at q e) ReferenceIndex.None)) r → Goes s at (var_name k n i) r
+    goes-name (Some (v, z)) h =
         let r = carries-word g w limit (omega (arith, w.inside)) _ refl (carries-gap a _ _ h) in
         record { past = r.past; inside = r.inside; reads = λ c x p. run-no-limit s c _ x ∙ r.reads c x p }
-    goes-name FastVar.Miss h = tt
+    goes-name None h = tt
 
     pub ends-name : Ends s last → (v : Var) → v ≡ variable k n i (text_at q e) ReferenceIndex.None
-        → Goes s at (var_name k n i) (FastVar.Hit v (last + 4))
-    ends-name x v m = goes-name (FastVar.Hit v (last + 4)) (ends-plain (text_at q e) (none a.inside) x v m)
+        → Goes s at (var_name k n i) (Some (v, last + 4))
+    ends-name x v m = goes-name (Some (v, last + 4)) (ends-plain (text_at q e) (none a.inside) x v m)
 
 -- ---- the whole of it, from `$` on
 module _ {s : List ℕ} {at first q e : ℕ} (g : Gap s at first) (b : Begins s first) (a : Gap s (first + 5) q) (k : VarType)
-    (t : HitsType s q (FastType.Hit k e)) where
-  from-dollar : {z : ℕ} {m : Command} → Carries s (e + 1) z (var_of (ParsedVarType.Is k)) m → Carries s (first + 1) z dollar m
+    (t : HitsType s q (Some (k, e))) where
+  from-dollar : {z : ℕ} {m : Command} → Carries s (e + 1) z (var_of (Some k)) m → Carries s (first + 1) z dollar m
   unfolding lookup equal
   from-dollar r =
       let more : first + 5 ≡ first + 1 + 3 + 1 = omega arith in
@@ -248,11 +240,11 @@ module _ {s : List ℕ} {at first q e : ℕ} (g : Gap s at first) (b : Begins s 
       carries-token (none (omega (arith, b.1.0.inside))) (worded b.1.0) 16 (omega arith) _ b.1.0.ended is
       (carries-word (rw more at a) t.0 32 t.1 _ (rw t.2) r)
 
-  pub hits : (r : FastVar) → Goes s (e + 1) (var_of (ParsedVarType.Is k)) r → HitsVar s at r
+  pub hits : (r : Option (Var × ℕ)) → Goes s (e + 1) (var_of (Some k)) r → HitsVar s at r
   unfolding kind_of has
-  hits (FastVar.Hit v z) h =
+  hits (Some (v, z)) h =
       let r = from-dollar h in
       reads-gap g
       (reads-kind s first z Kind.Dollar _ (omega (arith, r.past)) r.inside (rw b.0)
       (λ x. let y : ◌≡◌ {A = ℕ} 0 1 = cc in omega arith) (λ d u p. sym (r.reads d u p)))
-  hits FastVar.Miss h = tt
+  hits None h = tt

@@ -1,5 +1,5 @@
 -- Laws of digits and of indexes in digits: what a run of digits means, and what `[n]` and `[m:n]` are read as. Assumes nothing.
-use Rattle.std.proofs.Common.{◌≡◌, ℕ, suc, ◌+◌, ◌-◌, ◌*◌, ◌^◌, ◌<◌, ◌≤◌, true, List, [], ◌∷◌, ◌++◌, length, get_or, take, drop, ℤ, pos, sym, refl, ap, ◌∙◌, append-nil, pow-suc, arith, length-append, length-drop, take-append-drop, length-take, get_or-drop, take-suc, drop-drop, w32, SFits, to_z, lt-ltb, eq-eqb, ne_eqb}
+use Rattle.std.proofs.Common.{◌≡◌, ℕ, suc, ◌+◌, ◌-◌, ◌*◌, ◌^◌, ◌<◌, ◌≤◌, true, List, [], ◌∷◌, ◌++◌, length, get_or, take, drop, ℤ, pos, sym, refl, ap, ◌∙◌, append-nil, pow-suc, arith, length-append, length-drop, take-append-drop, length-take, get_or-drop, take-suc, drop-drop, w32, SFits, to_z, lt-ltb, eq-eqb, ne_eqb, Some}
 use native.Mathlib.Nat.{pow-le-pow_right}
 use lib.Seq.{take-length, take-append_seam, get_or-append_seam, drop-append-add}
 use mir.ValLaws.{to_z_pos}
@@ -12,18 +12,14 @@ use Rattle.text.proofs.Blanks.{solid}
 use Rattle.text.proofs.Lists.{cond_both}
 use Rattle.utf8.proofs.WellFormed.{ascii-first, empty-valid}
 use Rattle.number.specs.Decimal.{is_digit, all_digits, value, number_from, digits_below, parse_below, plain}
-use Rattle.number.specs.declared.Number.{Number as NumberRead}
-use Rattle.number.specs.declared.Signed.{Signed}
 use Rattle.number.proofs.Laws.{digit, digit-range, no_sign, sign-no}
 use Rattle.number.proofs.Signs.{signed-plain}
 use Rattle.scope.specs.Index.{padded, up_to_byte, parse_inside, parse_index}
-use Rattle.scope.specs.declared.ParsedIndex.{ParsedIndex}
 use Rattle.scope.specs.declared.ReferenceIndex.{ReferenceIndex}
 use Rattle.token.specs.Read.{word}
 use Rattle.parser_part.specs.FastWord.{Whole}
 use Rattle.fast.proofs.Short.{value-snoc}
 use Rattle.fast_var.specs.FastVar.{Number, Closed, RangeAt, IndexAt}
-use Rattle.fast_var.specs.declared.FastIndex.{FastIndex}
 use Rattle.fast_var.proofs.Places.{Stands, stands-byte, stands-join, worded, whole}
 
 -- ---- digits that were passed, from `at` up to i
@@ -122,7 +118,7 @@ all-kept (b ∷ w) e =
     let k = all-kept w (cond_both (is_digit b) (all_digits w) e).1 in
     rw (none_first (b ∷ w) e, ne_eqb 0 (suc (length w)) (λ z. omega arith), k)
 
-digits-mean : (limit : ℕ) (w : List ℕ) → 0 < length w → all_digits w ≡ true → value 0 w < limit → digits_below limit w ≡ NumberRead.Is (value 0 w)
+digits-mean : (limit : ℕ) (w : List ℕ) → 0 < length w → all_digits w ≡ true → value 0 w < limit → digits_below limit w ≡ Some (value 0 w)
 unfolding digits_below number_from
 digits-mean limit [] some all h = absurd (omega arith)
 digits-mean limit (b ∷ w) some all h = rw (all, lt-ltb (value 0 (b ∷ w)) limit h)
@@ -133,15 +129,15 @@ record Run (w : List ℕ) : Type 0 where
   all : all_digits w ≡ true
   small : value 0 w < 10 ^ 9
 
-run-read : (limit : ℕ) (w : List ℕ) → Run w → 10 ^ 9 ≤ limit → parse_below limit w ≡ NumberRead.Is (value 0 w)
+run-read : (limit : ℕ) (w : List ℕ) → Run w → 10 ^ 9 ≤ limit → parse_below limit w ≡ Some (value 0 w)
 run-read limit w r h =
     sym (sign-no limit w (no_sign 43 w (omega arith) r.some r.all))
     ∙ digits-mean limit w r.some r.all (omega (arith, r.small))
 
-number_read : (w : List ℕ) → Run w → padded w ≡ Signed.Is (pos (value 0 w))
+number_read : (w : List ℕ) → Run w → padded w ≡ Some (pos (value 0 w))
 unfolding padded part
 number_read w r =
-    let signed = signed-plain w (λ q. omega (arith, r.some)) (no_sign 45 w (omega arith) r.some r.all) in
+    let signed = signed-plain w (no_sign 45 w (omega arith) r.some r.all) in
     rw (none_first w r.all, all-kept w r.all, ne_eqb (length w) 0 (λ q. omega (arith, r.some)), take-length w)
     (sym signed ∙ ap plain (run-read (2 ^ 31) w r (omega arith)))
 
@@ -160,14 +156,14 @@ bracketed m =
     let n : length (m ++ 93 ∷ []) - 1 ≡ length m = omega (arith, length-append m (93 ∷ [])) in
     rw (n, get_or-append_seam m 93 [] 0, take-append_seam m (93 ∷ []))
 
-parse-bit : (w : List ℕ) → Run w → parse_index (91 ∷ (w ++ 93 ∷ [])) ≡ ParsedIndex.Is (ReferenceIndex.BitSelect (pos (value 0 w)))
+parse-bit : (w : List ℕ) → Run w → parse_index (91 ∷ (w ++ 93 ∷ [])) ≡ Some (ReferenceIndex.BitSelect (pos (value 0 w)))
 unfolding parse_inside up_to_byte
 parse-bit w r =
     let all : up_to_byte 58 w ≡ w = rw append-nil at (past w [] r.all) in
     rw (bracketed w, all, eq-eqb (length w) (length w) refl, number_read w r)
 
 parse-range : (v w : List ℕ) → Run v → Run w
-    → parse_index (91 ∷ ((v ++ (58 ∷ w)) ++ 93 ∷ [])) ≡ ParsedIndex.Is (ReferenceIndex.Range (pos (value 0 v)) (pos (value 0 w)))
+    → parse_index (91 ∷ ((v ++ (58 ∷ w)) ++ 93 ∷ [])) ≡ Some (ReferenceIndex.Range (pos (value 0 v)) (pos (value 0 w)))
 unfolding parse_inside up_to_byte
 parse-range v w p q =
     let m : List ℕ = v ++ (58 ∷ w) in
@@ -177,7 +173,7 @@ parse-range v w p q =
 
 -- ---- the index that stands at `at`, closed before e
 index-here : (s : List ℕ) (at e : ℕ) (m : List ℕ) (x : ReferenceIndex) → get_or s at 0 ≡ 91 → Stands s (at + 1) e m → Closed s e → e < at + 32
-    → parse_index (91 ∷ (m ++ 93 ∷ [])) ≡ ParsedIndex.Is x → IndexAt s at (FastIndex.Hit x (e + 1))
+    → parse_index (91 ∷ (m ++ 93 ∷ [])) ≡ Some x → IndexAt s at (Some (x, e + 1))
 unfolding starts
 index-here s at e m x b p k few q =
     let first = stands-byte s at 91 (omega (arith, p.long)) b (omega arith) (omega arith) in
@@ -190,7 +186,7 @@ module _ (s : List ℕ) (at e v : ℕ) (d : Number s at e v) where
   run-here = record { some = omega (arith, run_long s at e v d, d.some); all = d.digits; small = rw d.means d.small }
 
   -- before a blank they are a number that is read
-  pub number-whole : is_blank (get_or s e 0) ≡ true → Whole s at e × (parse_below (2 ^ 64) (word (drop at s)) ≡ NumberRead.Is v)
+  pub number-whole : is_blank (get_or s e 0) ≡ true → Whole s at e × (parse_below (2 ^ 64) (word (drop at s)) ≡ Some v)
   number-whole b =
       let w = whole s at e _ (stands-digits s at e v d) d.inside d.some (omega (arith, d.few)) b in
       (w.0, rw (w.1, ← d.means) (run-read (2 ^ 64) _ run-here (omega arith)))
@@ -203,18 +199,18 @@ module _ (s : List ℕ) (at e v : ℕ) (d : Number s at e v) where
   number_fits = record { sfits = omega (arith, d.small) }
 
 module _ (s : List ℕ) (at e : ℕ) (k : Closed s e) where
-  pub bit-here : (v : ℕ) → get_or s at 0 ≡ 91 → Number s (at + 1) e v → IndexAt s at (FastIndex.Hit (ReferenceIndex.BitSelect (to_z w32 v)) (e + 1))
+  pub bit-here : (v : ℕ) → get_or s at 0 ≡ 91 → Number s (at + 1) e v → IndexAt s at (Some (ReferenceIndex.BitSelect (to_z w32 v), e + 1))
   bit-here v b d =
       index-here s at e _ _ b (stands-digits s (at + 1) e v d) k (omega (arith, d.few))
-      (parse-bit _ (run-here s (at + 1) e v d) ∙ ap (λ (z : ℤ). ParsedIndex.Is (ReferenceIndex.BitSelect z)) (held s (at + 1) e v d))
+      (parse-bit _ (run-here s (at + 1) e v d) ∙ ap (λ (z : ℤ). Some (ReferenceIndex.BitSelect z)) (held s (at + 1) e v d))
 
   pub range-here : (colon a b : ℕ) → RangeAt s at colon a → Number s (colon + 1) e b
-      → IndexAt s at (FastIndex.Hit (ReferenceIndex.Range (to_z w32 a) (to_z w32 b)) (e + 1))
+      → IndexAt s at (Some (ReferenceIndex.Range (to_z w32 a) (to_z w32 b), e + 1))
   range-here colon a b r f =
       let d : Number s (at + 1) colon a = r.1 in
       let between = stands-byte s colon 58 d.inside r.2 (omega arith) (omega arith) in
       index-here s at e _ _ r.0 (stands-join (stands-digits s (at + 1) colon a d) (stands-join between (stands-digits s (colon + 1) e b f))) k
       (omega (arith, d.few, f.few))
       (parse-range _ _ (run-here s (at + 1) colon a d) (run-here s (colon + 1) e b f)
-      ∙ ap (λ (z : ℤ). ParsedIndex.Is (ReferenceIndex.Range z (pos (value 0 (take (e - (colon + 1)) (drop (colon + 1) s)))))) (held s (at + 1) colon a d)
-      ∙ ap (λ (z : ℤ). ParsedIndex.Is (ReferenceIndex.Range (to_z w32 a) z)) (held s (colon + 1) e b f))
+      ∙ ap (λ (z : ℤ). Some (ReferenceIndex.Range z (pos (value 0 (take (e - (colon + 1)) (drop (colon + 1) s)))))) (held s (at + 1) colon a d)
+      ∙ ap (λ (z : ℤ). Some (ReferenceIndex.Range (to_z w32 a) z)) (held s (colon + 1) e b f))

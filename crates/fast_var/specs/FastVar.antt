@@ -1,5 +1,5 @@
 -- A hit of the fast path over a variable's definition, and what its parts do.
-use Rattle.std.specs.Prelude.{◌≡◌, ℕ, ◌+◌, ◌%◌, ◌^◌, ◌<◌, ◌≤◌, true, cond, List, length, drop, ◌==◌, slice_index, slice_index_or, slice_range}
+use Rattle.std.specs.Prelude.{◌≡◌, ℕ, ◌+◌, ◌%◌, ◌^◌, ◌<◌, ◌≤◌, true, cond, List, length, drop, ◌==◌, slice_index, slice_index_or, slice_range, Option, Some, None, Ok}
 use Prim.Native.String.{String}
 use Rattle.text.specs.Bytes.{bytes, starts}
 use Rattle.command.specs.Words.{end_mark, word_name}
@@ -9,8 +9,6 @@ use Rattle.number.specs.Decimal.{all_digits, value}
 use Rattle.idcode.specs.declared.IdCode.{IdCode}
 use Rattle.scope.specs.Index.{parse_index}
 use Rattle.scope.specs.Types.{parse_var_type, var_name}
-use Rattle.scope.specs.declared.ParsedIndex.{ParsedIndex}
-use Rattle.scope.specs.declared.ParsedVarType.{ParsedVarType}
 use Rattle.scope.specs.declared.ReferenceIndex.{ReferenceIndex}
 use Rattle.scope.specs.declared.Var.{Var}
 use Rattle.scope.specs.declared.VarType.{VarType}
@@ -21,17 +19,12 @@ use Rattle.token.specs.Read.{Valid, word}
 use Rattle.token.specs.declared.Cursor.{Cursor}
 use Rattle.parser_part.specs.Plan.{Plan, run, var_def}
 use Rattle.parser_part.specs.FastWord.{Whole}
-use Rattle.parser_part.specs.declared.Next.{Next}
-use Rattle.parser_part.specs.declared.word.FastWord.{FastWord}
 use Rattle.fast.specs.Fast.{Reads}
-use Rattle.fast_var.specs.declared.FastIndex.{FastIndex}
-use Rattle.fast_var.specs.declared.FastType.{FastType}
-use Rattle.fast_var.specs.declared.FastVar.{FastVar}
 
 -- the definition that reading from there gives
-abbrev pub HitsVar : List ℕ → ℕ → FastVar → Type 0
-HitsVar s at (FastVar.Hit v e) = Reads s at e (var_def v v.index)
-HitsVar s at FastVar.Miss = Unit {0}
+abbrev pub HitsVar : List ℕ → ℕ → Option (Var × ℕ) → Type 0
+HitsVar s at (Some (v, e)) = Reads s at e (var_def v v.index)
+HitsVar s at None = Unit {0}
 
 -- ---- places
 -- only spaces stand from `at` up to e
@@ -69,9 +62,9 @@ Usual s at = cond (slice_index s at % 2 == 1) (Names s at (var_name VarType.Wire
 
 -- ---- parts
 -- a type within the limit
-abbrev pub HitsType : List ℕ → ℕ → FastType → Type 0
-HitsType s at (FastType.Hit k e) = Worded s at e × (e ≤ at + 32) × (parse_var_type (word (drop at s)) ≡ ParsedVarType.Is k)
-HitsType s at FastType.Miss = Unit {0}
+abbrev pub HitsType : List ℕ → ℕ → Option (VarType × ℕ) → Type 0
+HitsType s at (Some (k, e)) = Worded s at e × (e ≤ at + 32) × (parse_var_type (word (drop at s)) ≡ Some k)
+HitsType s at None = Unit {0}
 
 -- digits up to e that mean v
 pub record Number (s : List ℕ) (at e v : ℕ) : Type 0 where
@@ -82,9 +75,9 @@ pub record Number (s : List ℕ) (at e v : ℕ) : Type 0 where
   pub digits : all_digits (slice_range s at e) ≡ true
   pub means : value 0 (slice_range s at e) ≡ v
 
-abbrev pub Digits : List ℕ → ℕ → FastWord → Type 0
-Digits s at (FastWord.Hit v e) = Number s at e v
-Digits s at FastWord.Miss = Unit {0}
+abbrev pub Digits : List ℕ → ℕ → Option (ℕ × ℕ) → Type 0
+Digits s at (Some (v, e)) = Number s at e v
+Digits s at None = Unit {0}
 
 -- `]` and a space
 abbrev pub Closed : List ℕ → ℕ → Type 0
@@ -95,11 +88,11 @@ abbrev pub RangeAt : List ℕ → ℕ → ℕ → ℕ → Type 0
 RangeAt s at colon a = (slice_index s at ≡ 91) × Number s (at + 1) colon a × (slice_index s colon ≡ 58)
 
 -- an index within the limit
-abbrev pub IndexAt : List ℕ → ℕ → FastIndex → Type 0
-IndexAt s at (FastIndex.Hit x e) =
+abbrev pub IndexAt : List ℕ → ℕ → Option (ReferenceIndex × ℕ) → Type 0
+IndexAt s at (Some (x, e)) =
     Worded s at e × (e ≤ at + 32) × (starts (bytes "[") (word (drop at s)) ≡ true)
-    × (parse_index (word (drop at s)) ≡ ParsedIndex.Is x)
-IndexAt s at FastIndex.Miss = Unit {0}
+    × (parse_index (word (drop at s)) ≡ Some x)
+IndexAt s at None = Unit {0}
 
 abbrev pub variable : VarType → ℕ → IdCode → Text → ReferenceIndex → Var
 variable k n i t x = record { var_type = k; size = n; code = i; reference = t; index = x }
@@ -109,8 +102,8 @@ variable k n i t x = record { var_type = k; size = n; code = i; reference = t; i
 pub record Carries (s : List ℕ) (at e : ℕ) (p : Plan) (k : Command) : Type 0 where
   pub past : at < e
   pub inside : e < length s
-  pub reads : (c : Cursor) → Valid s c → c.place ≡ at → run p s c ≡ Next.Command k (word_read c e (slice_index s e))
+  pub reads : (c : Cursor) → Valid s c → c.place ≡ at → run p s c ≡ Ok (k, word_read c e (slice_index s e))
 
-abbrev pub Goes : List ℕ → ℕ → Plan → FastVar → Type 0
-Goes s at p (FastVar.Hit v e) = Carries s at e p (var_def v v.index)
-Goes s at p FastVar.Miss = Unit {0}
+abbrev pub Goes : List ℕ → ℕ → Plan → Option (Var × ℕ) → Type 0
+Goes s at p (Some (v, e)) = Carries s at e p (var_def v v.index)
+Goes s at p None = Unit {0}

@@ -3,7 +3,6 @@
 #![tactic(auto)]
 
 ghost use Rattle.std.specs.Prelude.{◌≡◌, ◌+◌, ◌*◌, ◌<◌, ◌≤◌, true, length, if◌then◌else◌};
-ghost use Rattle.scope.specs.declared.ParsedVarType.{ParsedVarType};
 ghost use Rattle.scope.specs.declared.VarType.{VarType};
 ghost use Rattle.parser_part.specs.Plan.{var_of, var_id, var_name, var_end};
 ghost use Rattle.fast_var.specs.FastVar.{HitsVar, Gap, Worded, Four, Ends, Begins, Usual, HitsType, Goes, IndexAt, RangeAt, Digits, Closed, variable as variable_of};
@@ -11,8 +10,7 @@ ghost use Rattle.text.specs.Texts.{limit};
 
 use idcode::IdCode;
 use parser_part::word;
-use parser_part::word::FastWord;
-use scope::{ParsedVarType, ReferenceIndex, Var, VarType};
+use scope::{ReferenceIndex, Var, VarType};
 use text::Text;
 
 // `wire`, and `reg` with a space after it, as `quad` makes them of the names in the list of types.
@@ -26,103 +24,82 @@ const REG: u32 = scope::VAR_TYPES[scope::REG].name[0] as u32
     + 65536 * (scope::VAR_TYPES[scope::REG].name[2] as u32)
     + 16777216 * (b' ' as u32);
 
-// The variable that stands there, with the place of the blank that ends its definition.
-#[derive(Clone, Copy)]
-pub enum FastVar {
-    Hit(Var, usize),
-    Miss,
-}
-
-// A type, and the place of the space that ends it.
-#[derive(Clone, Copy)]
-enum FastType {
-    Hit(VarType, usize),
-    Miss,
-}
-
-// An index, and the place of the space that ends it.
-#[derive(Clone, Copy)]
-enum FastIndex {
-    Hit(ReferenceIndex, usize),
-    Miss,
-}
-
 // The definition that begins at `at`, after spaces.
-pub fn parse_var(input: &[u8], at: usize) -> FastVar
+pub fn parse_var(input: &[u8], at: usize) -> Option<(Var, usize)>
     requires at_in_bounds { at ≤ length input.now }
     requires input_len_bound { length input.now ≤ limit }
     ensures { HitsVar input.now at result }
 {
     let first = spaces_end(input, at);
     if !begins(input, first) {
-        return FastVar::Miss;
+        return None;
     }
     match type_at(input, spaces_end(input, first + 5)) {
-        FastType::Hit(k, end) => sized(input, end + 1, k),
-        FastType::Miss => FastVar::Miss,
+        Some((k, end)) => sized(input, end + 1, k),
+        None => None,
     }
 }
 
 // The two usual types are found without a search for the word's end.
-fn type_at(input: &[u8], at: usize) -> FastType
+fn type_at(input: &[u8], at: usize) -> Option<(VarType, usize)>
     requires { (at ≤ length input.now) × (length input.now ≤ limit) }
     ensures { HitsType input.now at result }
 {
     if is_usual(input, at) {
         let wire = input[at] % 2 == 1;
-        return FastType::Hit(usual_type(wire), usual_end(at, wire));
+        return Some((usual_type(wire), usual_end(at, wire)));
     }
     let end = word_end(input, at);
     if end <= at || at + 32 < end {
-        return FastType::Miss;
+        return None;
     }
     match VarType::from_str(&input[at..end]) {
-        ParsedVarType::Is(k) => FastType::Hit(k, end),
-        ParsedVarType::Invalid => FastType::Miss,
+        Some(k) => Some((k, end)),
+        None => None,
     }
 }
 
 // The rest of a definition after its type and a space.
-fn sized(input: &[u8], at: usize, k: VarType) -> FastVar
+fn sized(input: &[u8], at: usize, k: VarType) -> Option<(Var, usize)>
     requires { (at ≤ length input.now) × (length input.now ≤ limit) }
-    ensures { Goes input.now at (var_of (ParsedVarType.Is k)) result }
+    ensures { Goes input.now at (var_of (Some k)) result }
 {
     match word::fast_number(input, spaces_end(input, at)) {
-        FastWord::Hit(n, end) => {
+        Some((n, end)) => {
             if 4294967295 < n || input[end] != b' ' {
-                return FastVar::Miss;
+                return None;
             }
             coded(input, end + 1, k, n as u32)
         }
-        FastWord::Miss => FastVar::Miss,
+        None => None,
     }
 }
 
 // The rest of a definition after its width.
-fn coded(input: &[u8], at: usize, k: VarType, n: u32) -> FastVar
+fn coded(input: &[u8], at: usize, k: VarType, n: u32) -> Option<(Var, usize)>
     requires { (at ≤ length input.now) × (length input.now ≤ limit) }
     ensures { Goes input.now at (var_id k n) result }
 {
     match word::fast_id(input, spaces_end(input, at)) {
-        FastWord::Hit(i, end) => {
+        Some((i, end)) => {
             if input[end] != b' ' {
-                return FastVar::Miss;
+                return None;
             }
             named(input, end + 1, k, n, IdCode(i))
         }
-        FastWord::Miss => FastVar::Miss,
+        None => None,
     }
 }
 
 // The rest of a definition after its id.
-fn named(input: &[u8], at: usize, k: VarType, n: u32, i: IdCode) -> FastVar
+fn named(input: &[u8], at: usize, k: VarType, n: u32, i: IdCode) -> Option<(Var, usize)>
     requires { (at ≤ length input.now) × (length input.now ≤ limit) }
     ensures { Goes input.now at (var_name k n i) result }
 {
     let start = spaces_end(input, at);
     let end = word_end(input, start);
     if end <= start {
-        return FastVar::Miss;
+        return None;
     }
     let t = Text {
         start,
@@ -130,25 +107,25 @@ fn named(input: &[u8], at: usize, k: VarType, n: u32, i: IdCode) -> FastVar
     };
     let last = spaces_end(input, end + 1);
     if ends(input, last) {
-        return FastVar::Hit(made(k, n, i, t, ReferenceIndex::None), last + 4);
+        return Some((made(k, n, i, t, ReferenceIndex::None), last + 4));
     }
     indexed(input, last, k, n, i, t)
 }
 
 // The index that stands at `at`, and the last word.
-fn indexed(input: &[u8], at: usize, k: VarType, n: u32, i: IdCode, t: Text) -> FastVar
+fn indexed(input: &[u8], at: usize, k: VarType, n: u32, i: IdCode, t: Text) -> Option<(Var, usize)>
     requires { (at ≤ length input.now) × (length input.now ≤ limit) }
     ensures { Goes input.now at (var_end (variable_of k n i t ReferenceIndex.None)) result }
 {
     match index_at(input, at) {
-        FastIndex::Hit(x, end) => {
+        Some((x, end)) => {
             let last = spaces_end(input, end + 1);
             if ends(input, last) {
-                return FastVar::Hit(made(k, n, i, t, x), last + 4);
+                return Some((made(k, n, i, t, x), last + 4));
             }
-            FastVar::Miss
+            None
         }
-        FastIndex::Miss => FastVar::Miss,
+        None => None,
     }
 }
 
@@ -165,40 +142,40 @@ fn made(var_type: VarType, size: u32, code: IdCode, reference: Text, index: Refe
 }
 
 // `[n]` or `[m:n]` in digits, and a space after it.
-fn index_at(input: &[u8], at: usize) -> FastIndex
+fn index_at(input: &[u8], at: usize) -> Option<(ReferenceIndex, usize)>
     requires { (at ≤ length input.now) × (length input.now ≤ limit) }
     ensures { IndexAt input.now at result }
 {
     if input.len() <= at || input[at] != b'[' {
-        return FastIndex::Miss;
+        return None;
     }
     match digits(input, at + 1) {
-        FastWord::Hit(a, end) => {
+        Some((a, end)) => {
             if input[end] == b':' {
                 return range(input, at, end, a);
             }
             if closed(input, end) {
-                return FastIndex::Hit(ReferenceIndex::BitSelect(a as i32), end + 1);
+                return Some((ReferenceIndex::BitSelect(a as i32), end + 1));
             }
-            FastIndex::Miss
+            None
         }
-        FastWord::Miss => FastIndex::Miss,
+        None => None,
     }
 }
 
 // The index that begins at `at` with the number a, and a colon at `colon`.
-fn range(input: &[u8], at: usize, colon: usize, a: u64) -> FastIndex
+fn range(input: &[u8], at: usize, colon: usize, a: u64) -> Option<(ReferenceIndex, usize)>
     requires { (colon < length input.now) × (length input.now ≤ limit) × RangeAt input.now at colon a }
     ensures { IndexAt input.now at result }
 {
     match digits(input, colon + 1) {
-        FastWord::Hit(b, end) => {
+        Some((b, end)) => {
             if closed(input, end) {
-                return FastIndex::Hit(ReferenceIndex::Range(a as i32, b as i32), end + 1);
+                return Some((ReferenceIndex::Range(a as i32, b as i32), end + 1));
             }
-            FastIndex::Miss
+            None
         }
-        FastWord::Miss => FastIndex::Miss,
+        None => None,
     }
 }
 
@@ -214,7 +191,7 @@ fn closed(input: &[u8], at: usize) -> bool
 }
 
 // The digits from `at` on, 9 at most, and where they end.
-fn digits(input: &[u8], at: usize) -> FastWord
+fn digits(input: &[u8], at: usize) -> Option<(u64, usize)>
     requires { (at ≤ length input.now) × (length input.now ≤ limit) }
     ensures { Digits input.now at result }
 {
@@ -223,19 +200,15 @@ fn digits(input: &[u8], at: usize) -> FastWord
     while i < input.len() {
         let b = text::wide(input[i]);
         if b < 48 || 57 < b {
-            return if at < i {
-                FastWord::Hit(v, i)
-            } else {
-                FastWord::Miss
-            };
+            return if at < i { Some((v, i)) } else { None };
         }
         if at + 9 <= i {
-            return FastWord::Miss;
+            return None;
         }
         v = v * 10 + (b - 48);
         i += 1;
     }
-    FastWord::Miss
+    None
 }
 
 // The place of the first byte from `at` on that is no space.

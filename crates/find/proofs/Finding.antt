@@ -1,21 +1,25 @@
 -- Looking up by a path: the names of a path one by one, and the first row that is named.
-use Prim.Native.Nat.{ℕ, zero, suc, ◌+◌, ◌-◌, ◌/◌, ◌≤◌, ◌<◌}
+use Prim.Native.Nat.{ℕ, zero, suc, ◌+◌, ◌-◌, ◌/◌, ◌≤◌, ◌<◌, min}
 use mathlib.Core.Path.{◌≡◌, refl, sym, ap, ◌∙◌}
+use mathlib.Core.Logic.{◌≢◌}
+use Rattle.std.specs.List.{AllWithin, HoldsAt}
+use Rattle.std.specs.Option.{MatchOption, unwrap_or}
+use Rattle.std.proofs.Common.{Option}
+use Rattle.std.proofs.lemmas.Iterator.{index_from_first}
 use mathlib.Core.Bool.{true, false, cond}
 use mathlib.Core.List.{List, [], ◌∷◌}
+use native.Mathlib.Decide.{dec_lt}
 use native.Mathlib.Omega.{arith}
-use borrow.Author.Tests.{ltb-true, lt-ltb, le-ltb}
+use borrow.Author.Tests.{eq-eqb, ne_eqb, ltb-true, lt-ltb, le-ltb}
 use lib.Dec.{eqb, ltb}
 use lib.ListN.{length, take, drop, length-drop}
 use lib.Seq.{drop-drop}
 use Rattle.scope.specs.Index.{up_to_byte}
-use Rattle.text.specs.declared.Text.{Text}
 use Rattle.text.proofs.Lists.{by-test, take_rest}
 use Rattle.find.specs.Find.{is_named, first_named, names_on, names, into, find_from, sought}
 use Rattle.rows.specs.Rows.{row_at, rows_from, top, rows_of}
 use Rattle.find.specs.declared.FoundRow.{FoundRow}
 use Rattle.find.specs.declared.Kind.{Kind}
-use Rattle.rows.specs.declared.Parent.{Parent}
 use Rattle.rows.specs.declared.Row.{Row}
 
 -- ---- names
@@ -65,6 +69,14 @@ name-front (b ∷ l) n e =
 
 pub name-count : (l : List ℕ) (n : ℕ) → n ≡ length (first l) → n ≡ length (take n l)
 name-count l n e = e ∙ sym (ap length (name-front l n e))
+
+-- the place of the first space, or the end, where r is what `position` answered
+pub space-length : (l : List ℕ) (r : Option ℕ)
+    → MatchOption r (AllWithin (λ b. b ≢ 32) l 0 (length l)) (λ i. (i < length l) × HoldsAt (λ b. b ≡ 32) l i × AllWithin (λ b. b ≢ 32) l 0 i)
+    → unwrap_or r (length l) ≡ length (first l)
+unfolding up_to_byte
+space-length l r h =
+    sym (index_from_first (λ m. length (first m)) (λ b. b ≡ 32) (λ b. b ≢ 32) refl (λ b m e. rw (eq-eqb b 32 e)) (λ b m e. rw (ne_eqb b 32 e) (omega arith)) l r h)
 
 pub sought-none : (s : List ℕ) (kind : Kind) (table : List ℕ) (n : ℕ) (path : List ℕ) → length path ≡ 0 → FoundRow.None ≡ sought s kind table n path
 unfolding sought names find_from
@@ -119,6 +131,19 @@ module _ (s : List ℕ) (kind : Kind) (rs : List Row) (p : ℕ) (path : List ℕ
       ∙ ap (λ (l : List ℕ). into (λ r. find_from s kind rs r (pieces l)) x)
       (ap (λ (j : ℕ). drop (j + 1) (drop at path)) (sym len_is) ∙ drop-drop (len + 1) at path)
 
+pub no_row : (s : List ℕ) (kind : Kind) (p : ℕ) (name : List ℕ) → is_named s kind p name Row.None ≡ false
+no_row s Kind.Scope p name = refl
+no_row s Kind.Var p name = refl
+
+nameless : (s : List ℕ) (kind : Kind) (p : ℕ) (name table : List ℕ) (i : ℕ) → length table / 10 ≤ i → is_named s kind p name (row_at table i) ≡ false
+unfolding row_at
+nameless s kind p name table i h = rw (le-ltb i (length table / 10) h) (no_row s kind p name)
+
+pub beyond : (s : List ℕ) (kind : Kind) (p : ℕ) (name table : List ℕ) (k i : ℕ) → length table / 10 ≤ i → first_named s kind p name i (rows_from table i k) ≡ FoundRow.None
+unfolding first_named rows_from
+beyond s kind p name table zero i h = refl
+beyond s kind p name table (suc k) i h = rw (nameless s kind p name table i h) (beyond s kind p name table k (i + 1) (omega arith))
+
 -- ---- the first that is named
 module _ (s : List ℕ) (kind : Kind) (p : ℕ) (name table : List ℕ) (count i : ℕ) where
   -- the answer from row i on
@@ -143,24 +168,10 @@ module _ (s : List ℕ) (kind : Kind) (p : ℕ) (name table : List ℕ) (count i
       let k : count - i ≡ suc (count - (i + 1)) = omega arith in
       rw k (one (count - (i + 1)) ∙ rw e)
 
-  pub from_end : count ≤ i → from ≡ FoundRow.None
+  from_end : count ≤ i → from ≡ FoundRow.None
   unfolding first_named rows_from
   from_end h = let k : count - i ≡ 0 = omega arith in rw k
 
--- comments, and rows that the table does not have, are not named
-pub no-comment : (s : List ℕ) (kind : Kind) (p : ℕ) (name : List ℕ) (q : Parent) (t : Text) → is_named s kind p name (Row.Comment q t) ≡ false
-no-comment s Kind.Scope p name q t = refl
-no-comment s Kind.Var p name q t = refl
-
-pub no_row : (s : List ℕ) (kind : Kind) (p : ℕ) (name : List ℕ) → is_named s kind p name Row.None ≡ false
-no_row s Kind.Scope p name = refl
-no_row s Kind.Var p name = refl
-
-nameless : (s : List ℕ) (kind : Kind) (p : ℕ) (name table : List ℕ) (i : ℕ) → length table / 10 ≤ i → is_named s kind p name (row_at table i) ≡ false
-unfolding row_at
-nameless s kind p name table i h = rw (le-ltb i (length table / 10) h) (no_row s kind p name)
-
-pub beyond : (s : List ℕ) (kind : Kind) (p : ℕ) (name table : List ℕ) (k i : ℕ) → length table / 10 ≤ i → first_named s kind p name i (rows_from table i k) ≡ FoundRow.None
-unfolding first_named rows_from
-beyond s kind p name table zero i h = refl
-beyond s kind p name table (suc k) i h = rw (nameless s kind p name table i h) (beyond s kind p name table k (i + 1) (omega arith))
+  -- past the rows that are asked for, or those that the table has
+  pub from_past : min count (length table / 10) ≤ i → from ≡ FoundRow.None
+  from_past h = elim (dec_lt i count) [ yes q ↦ beyond s kind p name table (count - i) i (omega arith) | no q ↦ from_end (omega arith) ]

@@ -85,14 +85,7 @@ fn seek(input: &[u8], kind: Kind, rows: &[u64], count: usize, path: &[u8]) -> Fo
 fn name_len(s: &[u8]) -> usize
     ensures { result ≡ length (up_to_byte 32 s.now) }
 {
-    let mut i = 0;
-    while i < s.len() {
-        if s[i] == b' ' {
-            return i;
-        }
-        i += 1;
-    }
-    i
+    s.iter().position(|&b| b == b' ').unwrap_or(s.len())
 }
 
 // The first row of a kind, a parent and a name.
@@ -106,15 +99,11 @@ fn first_named(
 ) -> FoundRow
     ensures { result ≡ first_named input.now kind parent name.now 0 (rows_of rows.now count) }
 {
-    let mut i: usize = 0;
-    while i < count {
-        if rows.len() / rows::WORDS <= i {
-            return FoundRow::None;
-        }
+    let held = count.min(rows.len() / rows::WORDS);
+    for i in 0..held {
         if is_named(input, kind, parent, name, rows::row_at(rows, i)) {
             return FoundRow::At(RowNumber(i as u64));
         }
-        i += 1;
     }
     FoundRow::None
 }

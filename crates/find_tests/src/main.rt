@@ -24,19 +24,16 @@ fn main(rt: HostRuntime) {
 fn answer_all(input: &[u8], out: &mut [u8]) -> usize {
     let mut rows = [0u64; 320];
     let h = header::read_header(input, parser::start(), &mut rows);
-    let c = h.cursor;
-    let mut at = after_line(input, c.place);
+    let mut at = after_line(input, h.cursor.place);
     let mut o: usize = 0;
-    let mut lines: u64 = 0;
     // Every line has a byte at least.
-    while lines < 4096 {
+    for _ in 0..4096 {
         if input.len() <= at {
             return o;
         }
         let line = replay::line_at(input, at);
         o = answer_path(input, &rows, h.count, text::part(input, line), out, o);
         at = after_line(input, at);
-        lines += 1;
     }
     o
 }
@@ -87,13 +84,10 @@ fn put_row(input: &[u8], row: Row, out: &mut [u8], at: usize) -> usize {
             put_name(input, t, out, o)
         }
         Row::Var(_, v) => {
-            let kind = v.var_type;
-            let code = v.code;
-            let reference = v.reference;
-            let o = put_word(out, at, kind.spell());
+            let o = put_word(out, at, v.var_type.spell());
             let o = put_number(out, o, v.size as u64);
-            let o = put_number(out, o, code.0);
-            put_name(input, reference, out, o)
+            let o = put_number(out, o, v.code.0);
+            put_name(input, v.reference, out, o)
         }
         Row::Comment(_, _) => put(out, at, b" comment\n"),
         Row::None => put(out, at, b" none\n"),

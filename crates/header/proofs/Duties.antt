@@ -1,4 +1,6 @@
 -- The arms `_` of the matches on a command: they know the numbers of the variants that are left.
+use Rattle.std.specs.Prelude.{Option, Err}
+use Rattle.rows.specs.declared.RowNumber.{RowNumber}
 use Prim.Native.Nat.{ℕ}
 use mathlib.Core.Path.{◌≡◌, refl}
 use mathlib.Core.List.{List, [], ◌∷◌}
@@ -11,13 +13,11 @@ use Rattle.token.specs.declared.Cursor.{Cursor}
 use Rattle.header.specs.Level.{duty, item_of, table_of, close_of, misplaced, keep_of}
 use Rattle.header.specs.declared.Header.{Header}
 use Rattle.header.specs.declared.Item.{Item}
-use Rattle.header.specs.declared.Part.{Part}
-use Rattle.rows.specs.declared.Parent.{Parent}
 
 abbrev rowless : List ℕ
 rowless = 1 ∷ 2 ∷ 3 ∷ 5 ∷ 7 ∷ 8 ∷ 9 ∷ 10 ∷ 11 ∷ 12 ∷ 13 ∷ 14 ∷ []
 
-module _ (cap levels n : ℕ) (p : Parent) (d : Cursor) (m : List ℕ) where
+module _ (cap levels n : ℕ) (p : Option RowNumber) (d : Cursor) (m : List ℕ) where
   pub item-rest : (k : Command) → OneOf rowless (tag_of the_type k) → (Item.Other k d ≡ item_of cap levels n k d) × (m ≡ table_of cap p levels n k m)
   unfolding item_of table_of duty
   item-rest (Command.Comment t) o = absurd (miss rowless 0 tt o)
@@ -39,7 +39,7 @@ module _ (cap levels n : ℕ) (p : Parent) (d : Cursor) (m : List ℕ) where
 abbrev unclosed : List ℕ
 unclosed = 0 ∷ 1 ∷ 2 ∷ 3 ∷ 4 ∷ 6 ∷ 7 ∷ 8 ∷ 9 ∷ 10 ∷ 11 ∷ 12 ∷ 13 ∷ 14 ∷ []
 
-pub close-rest : (d : Cursor) (n : ℕ) (k : Command) → OneOf unclosed (tag_of the_type k) → Part.Refused Refusal.UnexpectedHeaderCommand d.line d n ≡ close_of k d n
+pub close-rest : (d : Cursor) (n : ℕ) (k : Command) → OneOf unclosed (tag_of the_type k) → Err (Refusal.UnexpectedHeaderCommand, d.line, d, n) ≡ close_of k d n
 unfolding close_of duty
 close-rest d n Command.Upscope o = absurd (miss unclosed 5 tt o)
 close-rest d n (Command.Comment t) o = refl

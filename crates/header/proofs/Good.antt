@@ -1,4 +1,5 @@
 -- The rows that a header's reading makes are a good table.
+use Rattle.std.specs.Prelude.{Some}
 use Prim.Native.Nat.{ℕ, ◌+◌, ◌/◌, min, ◌≤◌, ◌<◌}
 use mathlib.Core.Path.{◌≡◌, refl, ◌∙◌}
 use mathlib.Core.Bool.{true, ◌&&◌}
@@ -15,7 +16,6 @@ use Rattle.token.specs.declared.Cursor.{Cursor}
 use Rattle.rows.specs.Good.{is_parent, open_to, is_good_from, is_good_table}
 use Rattle.header.specs.Header.{nothing, with_date, with_version, with_timescale, Step, on, off, whole, inner, added, at_top, closed, move, Outcome, follow, read_rows, header_of}
 use Rattle.header.specs.declared.Header.{Header}
-use Rattle.rows.specs.declared.Parent.{Parent}
 use Rattle.rows.specs.declared.Row.{Row}
 
 -- ---- the open scopes: rows made, each before the one in it
@@ -31,7 +31,7 @@ falls-on n m (x ∷ st) h f = (omega (arith, f.0), f.1)
 abbrev pub Among : List ℕ → List ℕ → Type 0
 Among [] gs = Unit
 Among (x ∷ st) gs =
-    (is_parent (Parent.Of (record { 0 = x })) gs ≡ true) × (open_to (Parent.Of (record { 0 = x })) gs ≡ x ∷ st) × Among st gs
+    (is_parent (Some (record { 0 = x })) gs ≡ true) × (open_to (Some (record { 0 = x })) gs ≡ x ∷ st) × Among st gs
 
 -- also below a later one
 under : (n : ℕ) (st gs : List ℕ) → Falls n st → Among st gs → Among st (n ∷ gs)

@@ -1,4 +1,5 @@
 -- Of the rows that a header's reading makes and of what it keeps: the texts lie in the input, and the numbers fit a row's words.
+use Rattle.std.specs.Prelude.{Option, Some, None}
 use Prim.Native.Nat.{ℕ, zero, suc, ◌+◌, ◌/◌, min, ◌≤◌}
 use mathlib.Core.Path.{◌≡◌, refl}
 use mathlib.Core.Bool.{true}
@@ -9,7 +10,7 @@ use lib.ListN.{length}
 use Rattle.command.specs.declared.Command.{Command}
 use Rattle.parser.specs.All.{Commands, command, stop, finish, followed, commands_on, commands}
 use Rattle.parser.specs.Next.{next_from}
-use Rattle.parser_part.specs.declared.Next.{Next}
+use Rattle.parser.specs.declared.Next.{Next}
 use Rattle.parser.proofs.Moved.{Inside}
 use Rattle.parser.proofs.Ranged.{Ranged, command-ranged}
 use Rattle.parser.proofs.Stated.{command-inside}
@@ -23,7 +24,6 @@ use Rattle.token.proofs.Tokens.{Within}
 use Rattle.header.specs.Header.{nothing, with_date, with_version, with_timescale, Step, on, off, whole, inner, added, at_top, closed, move, Outcome, follow, read_rows, header_of}
 use Rattle.rows.specs.Rows.{filled, rows_of}
 use Rattle.header.specs.declared.Header.{Header}
-use Rattle.header.specs.declared.KeptText.{KeptText}
 use Rattle.rows.specs.declared.Row.{Row}
 use Rattle.rows.proofs.Fits.{ParentFits, Fits, filled-back}
 use Rattle.header.proofs.Good.{Falls, State, then, GoodStep, step-good, start}
@@ -35,9 +35,9 @@ TextIn s (Row.Var p v) = is_within s v.reference ≡ true
 TextIn s (Row.Comment p t) = is_within s t ≡ true
 TextIn s Row.None = Unit {0}
 
-abbrev pub KeptIn : List ℕ → KeptText → Type 0
-KeptIn s KeptText.None = Unit {0}
-KeptIn s (KeptText.Is t) = is_within s t ≡ true
+abbrev pub KeptIn : List ℕ → Option Text → Type 0
+KeptIn s None = Unit {0}
+KeptIn s (Some t) = is_within s t ≡ true
 
 abbrev pub HeaderIn : List ℕ → Header → Type 0
 HeaderIn s h = KeptIn s h.date × KeptIn s h.version

@@ -1,5 +1,8 @@
 -- What a command does to what is still to come: `after m n (rest ..)` is the same before it and after it, or is known. Then what the
 -- private functions promise of an item, of the end of a scope, of some variables, of a scope's items and of what is kept at top.
+use Rattle.command.specs.Refusals.{Ended}
+use Rattle.std.specs.Prelude.{Option, Some, Result, Ok, Err}
+use Rattle.rows.specs.declared.RowNumber.{RowNumber}
 use Prim.Native.Nat.{ℕ, suc, ◌+◌, ◌-◌, ◌≤◌, ◌<◌}
 use mathlib.Core.Path.{◌≡◌, refl, sym, ap, ◌∙◌}
 use mathlib.Core.Bool.{false, cond, false≢true}
@@ -14,7 +17,7 @@ use Rattle.command.specs.declared.Refusal.{Refusal}
 use Rattle.parser.specs.All.{Commands, followed, commands}
 use Rattle.parser.specs.Next.{next_from}
 use Rattle.parser_part.specs.Plan.{var_def}
-use Rattle.parser_part.specs.declared.Next.{Next}
+use Rattle.parser.specs.declared.Next.{Next}
 use Rattle.parser.proofs.All.{commands-step, less-left}
 use Rattle.scope.specs.declared.Var.{Var}
 use Rattle.text.proofs.Lists.{by-test}
@@ -22,12 +25,9 @@ use Rattle.token.specs.declared.Cursor.{Cursor}
 use Rattle.header.specs.Header.{Step, on, off, whole, inner, added, at_top, closed, move, Outcome, ending, follow, read_rows}
 use Rattle.header.specs.Level.{Duty, scope, leaf, keeps, closes, ends, strange, duty, has_row, item_by, item_of, table_by, table_of, close_by, close_of, keep_by, keep_of, final, fill, after, rest, Here, Took, Passes, Follows}
 use Rattle.rows.specs.Rows.{put, row_words}
-use Rattle.header.specs.declared.Ended.{Ended}
 use Rattle.header.specs.declared.Header.{Header}
 use Rattle.header.specs.declared.Item.{Item}
 use Rattle.header.specs.declared.Move.{Move}
-use Rattle.header.specs.declared.Part.{Part}
-use Rattle.rows.specs.declared.Parent.{Parent}
 use Rattle.rows.specs.declared.Row.{Row}
 
 -- ---- the moves, by what a command is for
@@ -65,13 +65,13 @@ module _ (s : List ℕ) (cap : ℕ) (m : List ℕ) (n : ℕ) (c d : Cursor) (st 
   none_more : (e : Ended) → after m n (ending h e d) ≡ final h e d n m
   none_more e = ap (λ (k : ℕ). final h e d k m) (add-zero n)
 
-  pub rest-refused : (e : Refusal) (l : ℕ) → next_from s c ≡ Next.Refused e l d → after m n (rest s cap c st n h) ≡ final h (Ended.Refused e l) d n m
+  pub rest-refused : (e : Refusal) (l : ℕ) → next_from s c ≡ Next.Refused e l d → after m n (rest s cap c st n h) ≡ final h (Err (e, l)) d n m
   unfolding read_rows
-  rest-refused e l q = ap (after m n) (by_next (Next.Refused e l d) q) ∙ none_more (Ended.Refused e l)
+  rest-refused e l q = ap (after m n) (by_next (Next.Refused e l d) q) ∙ none_more (Err (e, l))
 
-  pub rest-done : next_from s c ≡ Next.Done d → after m n (rest s cap c st n h) ≡ final h (Ended.Refused Refusal.UnexpectedEof d.line) d n m
+  pub rest-done : next_from s c ≡ Next.Done d → after m n (rest s cap c st n h) ≡ final h (Err (Refusal.UnexpectedEof, d.line)) d n m
   unfolding read_rows
-  rest-done q = ap (after m n) (by_next (Next.Done d) q) ∙ none_more (Ended.Refused Refusal.UnexpectedEof d.line)
+  rest-done q = ap (after m n) (by_next (Next.Done d) q) ∙ none_more (Err (Refusal.UnexpectedEof, d.line))
 
   module _ (k : Command) (q : next_from s c ≡ Next.Command k d) where
     abbrev more : List ℕ → List Row → Header → Outcome
@@ -84,11 +84,11 @@ module _ (s : List ℕ) (cap : ℕ) (m : List ℕ) (n : ℕ) (c d : Cursor) (st 
     by_move : (v : Step) → move_by cap (duty k) st n h ≡ v → after m n (rest s cap c st n h) ≡ after m n (follow d h v more)
     by_move v e = ap (after m n) (by-command ∙ ap (λ (w : Step). follow d h w more) (moves cap k st n h ∙ e))
 
-    stops : (x : Refusal) → move_by cap (duty k) st n h ≡ off x → after m n (rest s cap c st n h) ≡ final h (Ended.Refused x d.line) d n m
-    stops x e = by_move (off x) e ∙ none_more (Ended.Refused x d.line)
+    stops : (x : Refusal) → move_by cap (duty k) st n h ≡ off x → after m n (rest s cap c st n h) ≡ final h (Err (x, d.line)) d n m
+    stops x e = by_move (off x) e ∙ none_more (Err (x, d.line))
 
-    finishes : move_by cap (duty k) st n h ≡ whole → after m n (rest s cap c st n h) ≡ final h Ended.Whole d n m
-    finishes e = by_move whole e ∙ none_more Ended.Whole
+    finishes : move_by cap (duty k) st n h ≡ whole → after m n (rest s cap c st n h) ≡ final h (Ok tt) d n m
+    finishes e = by_move whole e ∙ none_more (Ok tt)
 
     steps : (st' : List ℕ) (r : Row) → move_by cap (duty k) st n h ≡ on st' (r ∷ []) h
         → after m n (rest s cap c st n h) ≡ after (put m n (row_words r)) (n + 1) (rest s cap d st' (n + 1) h)
@@ -102,7 +102,7 @@ module _ (s : List ℕ) (cap : ℕ) (m : List ℕ) (n : ℕ) (c d : Cursor) (st 
     passes st' h' e = by_move (on st' [] h') e ∙ ap (λ (j : ℕ). after m n (rest s cap d st' j h')) (add-zero n)
 
 -- ---- an item
-module _ (s : List ℕ) (cap levels : ℕ) (p : Parent) (c d : Cursor) (m : List ℕ) (n : ℕ) (k : Command) (q : next_from s c ≡ Next.Command k d) where
+module _ (s : List ℕ) (cap levels : ℕ) (p : Option RowNumber) (c d : Cursor) (m : List ℕ) (n : ℕ) (k : Command) (q : next_from s c ≡ Next.Command k d) where
   abbrev Taken : Item → List ℕ → Type 0
   Taken = Took s cap p levels c m n
 
@@ -145,7 +145,7 @@ module _ (s : List ℕ) (cap levels : ℕ) (p : Parent) (c d : Cursor) (m : List
 -- ---- the end of a scope
 module _ (s : List ℕ) (cap p levels : ℕ) (c d : Cursor) (m : List ℕ) (n : ℕ) (b : n ≤ cap) (k : Command) (q : next_from s c ≡ Next.Command k d) where
   misplaced : ((st : List ℕ) (h : Header) → move_by cap (duty k) (p ∷ st) n h ≡ off Refusal.UnexpectedHeaderCommand)
-      → Follows s cap p levels c m n (Part.Refused Refusal.UnexpectedHeaderCommand d.line d n) m
+      → Follows s cap p levels c m n (Err (Refusal.UnexpectedHeaderCommand, d.line, d, n)) m
   misplaced f = (b, λ st h w. stops s cap m n c d (p ∷ st) h k q Refusal.UnexpectedHeaderCommand (f st h))
 
   close-by : (y : Duty) → duty k ≡ y → has_row y ≡ false → Follows s cap p levels c m n (close_by d n y) m
@@ -158,17 +158,17 @@ module _ (s : List ℕ) (cap p levels : ℕ) (c d : Cursor) (m : List ℕ) (n : 
   close-by ends e z = misplaced (λ st h. rw e)
   close-by strange e z = misplaced (λ st h. rw e)
 
-  close-here : has_row (duty k) ≡ false → (x : Part) → x ≡ close_of k d n → Follows s cap p levels c m n x m
+  close-here : has_row (duty k) ≡ false → (x : Result (Cursor × ℕ) (Refusal × ℕ × Cursor × ℕ)) → x ≡ close_of k d n → Follows s cap p levels c m n x m
   unfolding close_of
   close-here z x e = rw e (close-by (duty k) refl z)
 
 -- ---- some variables
 -- none
-pub passes_none : (s : List ℕ) (cap : ℕ) (p : Parent) (c : Cursor) (m : List ℕ) (n : ℕ) → n ≤ cap → Passes s cap p c m n c n m
+pub passes_none : (s : List ℕ) (cap : ℕ) (p : Option RowNumber) (c : Cursor) (m : List ℕ) (n : ℕ) → n ≤ cap → Passes s cap p c m n c n m
 passes_none s cap p c m n b = (b, omega arith, λ levels st h w. refl)
 
 -- one more
-pub passes-more : (s : List ℕ) (cap : ℕ) (p : Parent) (c₀ : Cursor) (m₀ : List ℕ) (n₀ : ℕ) (c : Cursor) (n : ℕ) (m : List ℕ) (v : Var) (d : Cursor)
+pub passes-more : (s : List ℕ) (cap : ℕ) (p : Option RowNumber) (c₀ : Cursor) (m₀ : List ℕ) (n₀ : ℕ) (c : Cursor) (n : ℕ) (m : List ℕ) (v : Var) (d : Cursor)
     → Passes s cap p c₀ m₀ n₀ c n m → next_from s c ≡ Next.Command (var_def v v.index) d → n < cap
     → Passes s cap p c₀ m₀ n₀ d (n + 1) (put m n (row_words (Row.Var p v)))
 unfolding duty
@@ -192,16 +192,16 @@ reached-start s cap p levels c m n b = record { room = b; ahead = omega arith; s
 
 module _ {s : List ℕ} {cap p levels n₀ n : ℕ} {c₀ c : Cursor} {m₀ m : List ℕ} (i : Reached s cap p levels c₀ m₀ n₀ c m n) where
   abbrev Item-here : Item → List ℕ → Type 0
-  Item-here = Took s cap (Parent.Of (record { 0 = p })) levels c m n
+  Item-here = Took s cap (Some (record { 0 = p })) levels c m n
 
   abbrev On : Cursor → List ℕ → ℕ → Type 0
   On = Reached s cap p levels c₀ m₀ n₀
 
-  abbrev Ends : Part → List ℕ → Type 0
+  abbrev Ends : Result (Cursor × ℕ) (Refusal × ℕ × Cursor × ℕ) → List ℕ → Type 0
   Ends = Follows s cap p levels c₀ m₀ n₀
 
   -- after some variables, a leaf, a scope
-  pub reached-vars : (d : Cursor) (n' : ℕ) (m' : List ℕ) → Passes s cap (Parent.Of (record { 0 = p })) c m n d n' m' → On d m' n'
+  pub reached-vars : (d : Cursor) (n' : ℕ) (m' : List ℕ) → Passes s cap (Some (record { 0 = p })) c m n d n' m' → On d m' n'
   reached-vars d n' m' f = record {
     room = f.0;
     ahead = omega (arith, f.1, i.ahead);
@@ -216,7 +216,7 @@ module _ {s : List ℕ} {cap p levels n₀ n : ℕ} {c₀ c : Cursor} {m₀ m : 
   }
 
   pub reached-scope : (d e : Cursor) (n' : ℕ) (m' m'' : List ℕ) → Item-here (Item.Scope d) m'
-      → Follows s cap n (levels - 1) d m' (n + 1) (Part.Closed e n') m'' → On e m'' n'
+      → Follows s cap n (levels - 1) d m' (n + 1) (Ok (e, n')) m'' → On e m'' n'
   reached-scope d e n' m' m'' g f = record {
     room = f.0;
     ahead = omega (arith, g.1.1, f.1, i.ahead);
@@ -224,18 +224,18 @@ module _ {s : List ℕ} {cap p levels n₀ n : ℕ} {c₀ c : Cursor} {m₀ m : 
   }
 
   -- the end: `$upscope` or a command that may not stand here, a refusal, a refusal within a scope
-  pub ends-other : (k : Command) (d : Cursor) (m' : List ℕ) (x : Part) → Item-here (Item.Other k d) m' → x ≡ close_of k d n → Ends x m'
+  pub ends-other : (k : Command) (d : Cursor) (m' : List ℕ) (x : Result (Cursor × ℕ) (Refusal × ℕ × Cursor × ℕ)) → Item-here (Item.Other k d) m' → x ≡ close_of k d n → Ends x m'
   ends-other k d m' x g e = rw g.0 (onward x (close-here s cap p levels c d m n i.room k g.1 g.2 x e))
     where
-      onward : (y : Part) → Follows s cap p levels c m n y m → Ends y m
-      onward (Part.Closed a b) f = (f.0, omega (arith, f.1, i.ahead), λ st h w. i.same st h w ∙ f.2 st h w)
-      onward (Part.Refused r l a b) f = (f.0, λ st h w. i.same st h w ∙ f.1 st h w)
+      onward : (y : Result (Cursor × ℕ) (Refusal × ℕ × Cursor × ℕ)) → Follows s cap p levels c m n y m → Ends y m
+      onward (Ok (a, b)) f = (f.0, omega (arith, f.1, i.ahead), λ st h w. i.same st h w ∙ f.2 st h w)
+      onward (Err (r, l, a, b)) f = (f.0, λ st h w. i.same st h w ∙ f.1 st h w)
 
-  pub ends-refused : (r : Refusal) (l : ℕ) (d : Cursor) (m' : List ℕ) → Item-here (Item.Refused r l d) m' → Ends (Part.Refused r l d n) m'
+  pub ends-refused : (r : Refusal) (l : ℕ) (d : Cursor) (m' : List ℕ) → Item-here (Item.Refused r l d) m' → Ends (Err (r, l, d, n)) m'
   ends-refused r l d m' g = (i.room, λ st h w. i.same st h w ∙ g (p ∷ st) h (w, refl))
 
   pub ends-within : (d : Cursor) (r : Refusal) (l : ℕ) (e : Cursor) (n' : ℕ) (m' m'' : List ℕ) → Item-here (Item.Scope d) m'
-      → Follows s cap n (levels - 1) d m' (n + 1) (Part.Refused r l e n') m'' → Ends (Part.Refused r l e n') m''
+      → Follows s cap n (levels - 1) d m' (n + 1) (Err (r, l, e, n')) m'' → Ends (Err (r, l, e, n')) m''
   ends-within d r l e n' m' m'' g f =
       (f.0, λ st h w. i.same st h w ∙ g.1.2 (p ∷ st) h (w, refl) ∙ f.1 (p ∷ st) h (omega (arith, g.0, w)))
 

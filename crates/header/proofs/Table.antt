@@ -1,4 +1,5 @@
 -- A table that rows were stored in one after the other is the rows' words and then the rest as it was.
+use Rattle.command.specs.Refusals.{Ended}
 use Prim.Native.Nat.{ℕ, suc, ◌+◌, ◌-◌, ◌*◌, ◌≤◌}
 use mathlib.Core.Path.{◌≡◌, sym, ap, ◌∙◌}
 use mathlib.Core.List.{List, [], ◌∷◌, ◌++◌, append_assoc}
@@ -10,7 +11,6 @@ use Rattle.token.specs.declared.Cursor.{Cursor}
 use Rattle.header.specs.Header.{Outcome, answer_of}
 use Rattle.header.specs.Level.{final, fill, after}
 use Rattle.rows.specs.Rows.{words_in, row_words, words_of, put, filled}
-use Rattle.header.specs.declared.Ended.{Ended}
 use Rattle.header.specs.declared.Header.{Header}
 use Rattle.header.specs.declared.HeaderAnswer.{HeaderAnswer}
 use Rattle.rows.specs.declared.Row.{Row}

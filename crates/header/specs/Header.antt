@@ -1,5 +1,7 @@
 -- Reading a header: the commands in order, with a stack of the open scopes. The order of refusals stands in `move` alone.
-use Rattle.std.specs.Prelude.{ℕ, ◌+◌, ◌/◌, min, cond, List, [], ◌∷◌, ◌++◌, ltb, length}
+use Rattle.command.specs.Refusals.{Ended}
+use Rattle.rows.specs.declared.RowNumber.{RowNumber}
+use Rattle.std.specs.Prelude.{ℕ, ◌+◌, ◌/◌, min, cond, List, [], ◌∷◌, ◌++◌, ltb, length, Option, Some, None, Ok, Err}
 use Rattle.scope.specs.Limits.{most_levels, most_rows}
 use Rattle.command.specs.declared.Command.{Command}
 use Rattle.command.specs.declared.Refusal.{Refusal}
@@ -7,26 +9,22 @@ use Rattle.parser.specs.All.{Commands, command, stop, finish, commands}
 use Rattle.text.specs.declared.Text.{Text}
 use Rattle.timescale.specs.declared.TimescaleUnit.{TimescaleUnit}
 use Rattle.token.specs.declared.Cursor.{Cursor}
-use Rattle.header.specs.declared.Ended.{Ended}
 use Rattle.header.specs.declared.Header.{Header}
 use Rattle.header.specs.declared.HeaderAnswer.{HeaderAnswer}
-use Rattle.header.specs.declared.KeptText.{KeptText}
-use Rattle.header.specs.declared.KeptTimescale.{KeptTimescale}
-use Rattle.rows.specs.declared.Parent.{Parent}
 use Rattle.rows.specs.declared.Row.{Row}
 
 -- nothing kept, and a date, a version, a timescale kept
 abbrev pub nothing : Header
-nothing = record { date = KeptText.None; version = KeptText.None; timescale = KeptTimescale.None }
+nothing = record { date = None; version = None; timescale = None }
 
 abbrev pub with_date : Header → Text → Header
-with_date h t = record { date = KeptText.Is t; version = h.version; timescale = h.timescale }
+with_date h t = record { date = Some t; version = h.version; timescale = h.timescale }
 
 abbrev pub with_version : Header → Text → Header
-with_version h t = record { date = h.date; version = KeptText.Is t; timescale = h.timescale }
+with_version h t = record { date = h.date; version = Some t; timescale = h.timescale }
 
 abbrev pub with_timescale : Header → ℕ → TimescaleUnit → Header
-with_timescale h n u = record { date = h.date; version = h.version; timescale = KeptTimescale.Is n u }
+with_timescale h n u = record { date = h.date; version = h.version; timescale = Some (n, u) }
 
 -- what a command does: the reading goes on, with these scopes open, these rows added and this kept; or the header is whole, or refused
 pub data Step : Type 0 where
@@ -35,9 +33,9 @@ pub data Step : Type 0 where
   off : Refusal → Step
 
 -- the parent of an item: the innermost of the open scopes
-abbrev pub inner : List ℕ → Parent
-inner [] = Parent.Top
-inner (n ∷ st) = Parent.Of (record { 0 = n })
+abbrev pub inner : List ℕ → Option RowNumber
+inner [] = None
+inner (n ∷ st) = Some (record { 0 = n })
 
 -- a row where there is room
 abbrev pub added : ℕ → ℕ → List ℕ → Row → Header → Step
@@ -88,15 +86,15 @@ before rs o = record { rows = rs ++ o.rows; kept = o.kept; ended = o.ended; curs
 
 abbrev pub follow : Cursor → Header → Step → (List ℕ → List Row → Header → Outcome) → Outcome
 follow d h (on st rs h') more = before rs (more st rs h')
-follow d h whole more = ending h Ended.Whole d
-follow d h (off e) more = ending h (Ended.Refused e d.line) d
+follow d h whole more = ending h (Ok tt) d
+follow d h (off e) more = ending h (Err (e, d.line)) d
 
 -- the rows from these commands, with these scopes open, n rows made and this kept
 unfoldable pub read_rows : ℕ → Commands → List ℕ → ℕ → Header → Outcome
 read_rows cap (command k d more) st n h =
     follow d h (move cap k st n h) (λ st' rs h'. read_rows cap more st' (n + length rs) h')
-read_rows cap (stop e l d) st n h = ending h (Ended.Refused e l) d
-read_rows cap (finish d) st n h = ending h (Ended.Refused Refusal.UnexpectedEof d.line) d
+read_rows cap (stop e l d) st n h = ending h (Err (e, l)) d
+read_rows cap (finish d) st n h = ending h (Err (Refusal.UnexpectedEof, d.line)) d
 
 -- the header at a cursor, into a table with room for as many rows as it has words for, and at most 4,096
 abbrev pub header_of : List ℕ → Cursor → List ℕ → Outcome

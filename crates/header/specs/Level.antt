@@ -1,12 +1,14 @@
 -- What the private functions of the header's reading promise: that the rest of the reading, from where they stop, ends the same.
-use Rattle.std.specs.Prelude.{ℕ, suc, ◌+◌, ◌-◌, ◌≤◌, ◌<◌, ◌≡◌, Bool, true, false, cond, List, [], ◌∷◌, eqb, ltb, length}
+use Rattle.command.specs.Refusals.{Ended}
+use Rattle.rows.specs.declared.RowNumber.{RowNumber}
+use Rattle.std.specs.Prelude.{ℕ, suc, ◌+◌, ◌-◌, ◌≤◌, ◌<◌, ◌≡◌, Bool, true, false, cond, List, [], ◌∷◌, eqb, ltb, length, Option, Result, Ok, Err}
 use Rattle.scope.specs.Limits.{most_levels}
 use Rattle.command.specs.declared.Command.{Command}
 use Rattle.command.specs.declared.Refusal.{Refusal}
 use Rattle.idcode.specs.declared.IdCode.{IdCode}
 use Rattle.parser.specs.All.{commands}
 use Rattle.parser.specs.Next.{next_from}
-use Rattle.parser_part.specs.declared.Next.{Next}
+use Rattle.parser.specs.declared.Next.{Next}
 use Rattle.scope.specs.declared.ReferenceIndex.{ReferenceIndex}
 use Rattle.scope.specs.declared.Var.{Var}
 use Rattle.scope.specs.declared.VarType.{VarType}
@@ -14,12 +16,9 @@ use Rattle.text.specs.declared.Text.{Text}
 use Rattle.token.specs.declared.Cursor.{Cursor}
 use Rattle.header.specs.Header.{Outcome, inner, read_rows, with_date, with_version, with_timescale}
 use Rattle.rows.specs.Rows.{put, row_words}
-use Rattle.header.specs.declared.Ended.{Ended}
 use Rattle.header.specs.declared.Header.{Header}
 use Rattle.header.specs.declared.Item.{Item}
 use Rattle.header.specs.declared.Move.{Move}
-use Rattle.header.specs.declared.Part.{Part}
-use Rattle.rows.specs.declared.Parent.{Parent}
 use Rattle.rows.specs.declared.Row.{Row}
 
 -- ---- one command
@@ -28,8 +27,8 @@ var_of k w i t x = record { var_type = k; size = w; code = i; reference = t; ind
 
 -- what a command is for: a row, which its parent is still to be told of, something to keep, or neither
 pub data Duty : Type 0 where
-  scope : (Parent → Row) → Duty
-  leaf : (Parent → Row) → Duty
+  scope : (Option RowNumber → Row) → Duty
+  leaf : (Option RowNumber → Row) → Duty
   keeps : (Header → Header) → Duty
   closes : Duty
   ends : Duty
@@ -76,7 +75,7 @@ item_by cap levels n k d strange = Item.Other k d
 unfoldable pub item_of : ℕ → ℕ → ℕ → Command → Cursor → Item
 item_of cap levels n k d = item_by cap levels n k d (duty k)
 
-abbrev pub table_by : ℕ → Parent → ℕ → ℕ → List ℕ → Duty → List ℕ
+abbrev pub table_by : ℕ → Option RowNumber → ℕ → ℕ → List ℕ → Duty → List ℕ
 table_by cap p levels n m (scope r) = cond (eqb levels 0) m (cond (ltb n cap) (put m n (row_words (r p))) m)
 table_by cap p levels n m (leaf r) = cond (ltb n cap) (put m n (row_words (r p))) m
 table_by cap p levels n m (keeps f) = m
@@ -84,28 +83,28 @@ table_by cap p levels n m closes = m
 table_by cap p levels n m ends = m
 table_by cap p levels n m strange = m
 
-unfoldable pub table_of : ℕ → Parent → ℕ → ℕ → Command → List ℕ → List ℕ
+unfoldable pub table_of : ℕ → Option RowNumber → ℕ → ℕ → Command → List ℕ → List ℕ
 table_of cap p levels n k m = table_by cap p levels n m (duty k)
 
 -- inside a scope only `$upscope` is left
-abbrev pub close_by : Cursor → ℕ → Duty → Part
-close_by d n closes = Part.Closed d n
-close_by d n (scope r) = Part.Refused Refusal.UnexpectedHeaderCommand d.line d n
-close_by d n (leaf r) = Part.Refused Refusal.UnexpectedHeaderCommand d.line d n
-close_by d n (keeps f) = Part.Refused Refusal.UnexpectedHeaderCommand d.line d n
-close_by d n ends = Part.Refused Refusal.UnexpectedHeaderCommand d.line d n
-close_by d n strange = Part.Refused Refusal.UnexpectedHeaderCommand d.line d n
+abbrev pub close_by : Cursor → ℕ → Duty → Result (Cursor × ℕ) (Refusal × ℕ × Cursor × ℕ)
+close_by d n closes = Ok (d, n)
+close_by d n (scope r) = Err (Refusal.UnexpectedHeaderCommand, d.line, d, n)
+close_by d n (leaf r) = Err (Refusal.UnexpectedHeaderCommand, d.line, d, n)
+close_by d n (keeps f) = Err (Refusal.UnexpectedHeaderCommand, d.line, d, n)
+close_by d n ends = Err (Refusal.UnexpectedHeaderCommand, d.line, d, n)
+close_by d n strange = Err (Refusal.UnexpectedHeaderCommand, d.line, d, n)
 
-unfoldable pub close_of : Command → Cursor → ℕ → Part
+unfoldable pub close_of : Command → Cursor → ℕ → Result (Cursor × ℕ) (Refusal × ℕ × Cursor × ℕ)
 close_of k d n = close_by d n (duty k)
 
 -- at top: what is kept, and the end
 abbrev pub misplaced : ℕ → Move
-misplaced line = Move.Ends (Ended.Refused Refusal.UnexpectedHeaderCommand line)
+misplaced line = Move.Ends (Err (Refusal.UnexpectedHeaderCommand, line))
 
 abbrev pub keep_by : Header → ℕ → Duty → Move
 keep_by h line (keeps f) = Move.On (f h)
-keep_by h line ends = Move.Ends Ended.Whole
+keep_by h line ends = Move.Ends (Ok tt)
 keep_by h line (scope r) = misplaced line
 keep_by h line (leaf r) = misplaced line
 keep_by h line closes = misplaced line
@@ -132,35 +131,35 @@ abbrev pub rest : List ℕ → ℕ → Cursor → List ℕ → ℕ → Header �
 rest s cap c st n h = read_rows cap (commands s c) st n h
 
 -- ---- the next item, with n rows in the table m before it and the table m' after it; the open scopes are any that fit
-abbrev pub Here : ℕ → Parent → List ℕ → Type 0
+abbrev pub Here : ℕ → Option RowNumber → List ℕ → Type 0
 Here levels p st = (length st + levels ≡ most_levels) × (inner st ≡ p)
 
 -- a row was stored, and the reading goes on in the scopes that `then` makes of those open
-abbrev pub Stores : List ℕ → ℕ → Parent → ℕ → Cursor → List ℕ → ℕ → Cursor → List ℕ → (List ℕ → List ℕ) → Type 0
+abbrev pub Stores : List ℕ → ℕ → Option RowNumber → ℕ → Cursor → List ℕ → ℕ → Cursor → List ℕ → (List ℕ → List ℕ) → Type 0
 Stores s cap p levels c m n d m' then =
     (n < cap) × (length s - d.place < length s - c.place)
     × ((st : List ℕ) (h : Header) → Here levels p st → after m n (rest s cap c st n h) ≡ after m' (n + 1) (rest s cap d (then st) (n + 1) h))
 
-abbrev pub Took : List ℕ → ℕ → Parent → ℕ → Cursor → List ℕ → ℕ → Item → List ℕ → Type 0
+abbrev pub Took : List ℕ → ℕ → Option RowNumber → ℕ → Cursor → List ℕ → ℕ → Item → List ℕ → Type 0
 Took s cap p levels c m n (Item.Leaf d) m' = Stores s cap p levels c m n d m' (λ st. st)
 Took s cap p levels c m n (Item.Scope d) m' = (0 < levels) × Stores s cap p levels c m n d m' (λ st. n ∷ st)
 Took s cap p levels c m n (Item.Other k d) m' = (m' ≡ m) × (next_from s c ≡ Next.Command k d) × (has_row (duty k) ≡ false)
 Took s cap p levels c m n (Item.Refused e l d) m' =
-    (st : List ℕ) (h : Header) → Here levels p st → after m n (rest s cap c st n h) ≡ final h (Ended.Refused e l) d n m'
+    (st : List ℕ) (h : Header) → Here levels p st → after m n (rest s cap c st n h) ≡ final h (Err (e, l)) d n m'
 
 -- ---- some variables: the reading goes on after them in the same scopes, with n' rows in the table m'
-abbrev pub Passes : List ℕ → ℕ → Parent → Cursor → List ℕ → ℕ → Cursor → ℕ → List ℕ → Type 0
+abbrev pub Passes : List ℕ → ℕ → Option RowNumber → Cursor → List ℕ → ℕ → Cursor → ℕ → List ℕ → Type 0
 Passes s cap p c m n d n' m' =
     (n' ≤ cap) × (length s - d.place ≤ length s - c.place)
     × ((levels : ℕ) (st : List ℕ) (h : Header) → Here levels p st → after m n (rest s cap c st n h) ≡ after m' n' (rest s cap d st n' h))
 
 -- ---- the items of the scope at row p
-abbrev pub Follows : List ℕ → ℕ → ℕ → ℕ → Cursor → List ℕ → ℕ → Part → List ℕ → Type 0
-Follows s cap p levels c m n (Part.Closed d n') m' =
+abbrev pub Follows : List ℕ → ℕ → ℕ → ℕ → Cursor → List ℕ → ℕ → Result (Cursor × ℕ) (Refusal × ℕ × Cursor × ℕ) → List ℕ → Type 0
+Follows s cap p levels c m n (Ok (d, n')) m' =
     (n' ≤ cap) × (length s - d.place ≤ length s - c.place)
     × ((st : List ℕ) (h : Header) → suc (length st) + levels ≡ most_levels
     → after m n (rest s cap c (p ∷ st) n h) ≡ after m' n' (rest s cap d st n' h))
-Follows s cap p levels c m n (Part.Refused e l d n') m' =
+Follows s cap p levels c m n (Err (e, l, d, n')) m' =
     (n' ≤ cap)
     × ((st : List ℕ) (h : Header) → suc (length st) + levels ≡ most_levels
-    → after m n (rest s cap c (p ∷ st) n h) ≡ final h (Ended.Refused e l) d n' m')
+    → after m n (rest s cap c (p ∷ st) n h) ≡ final h (Err (e, l)) d n' m')

@@ -7,41 +7,21 @@ ghost use Rattle.header.specs.Header.{header_of, answer_of, nothing as nothing_k
 ghost use Rattle.rows.specs.Rows.{filled};
 ghost use Rattle.header.specs.Level.{Took, Passes, Follows, item_of, table_of, close_of, keep_of};
 
+pub use command::Ended;
 use command::{Command, Refusal};
-use fast_var::FastVar;
 use parser::Next;
-use rows::{LEVELS, MOST_ROWS, Parent, RowNumber};
+use rows::{LEVELS, MOST_ROWS, RowNumber};
 use scope::Var;
 use text::Text;
 use timescale::TimescaleUnit;
 use token::Cursor;
 
-// The last of a command's texts, or none.
-#[derive(Clone, Copy)]
-pub enum KeptText {
-    None,
-    Is(Text),
-}
-
-#[derive(Clone, Copy)]
-pub enum KeptTimescale {
-    None,
-    Is(u32, TimescaleUnit),
-}
-
 // What a header keeps beside its rows.
 #[derive(Clone, Copy)]
 pub struct Header {
-    pub date: KeptText,
-    pub version: KeptText,
-    pub timescale: KeptTimescale,
-}
-
-// How a header ended: at its `$enddefinitions`, or by a refusal and the line of it.
-#[derive(Clone, Copy)]
-pub enum Ended {
-    Whole,
-    Refused(Refusal, u64),
+    pub date: Option<Text>,
+    pub version: Option<Text>,
+    pub timescale: Option<(u32, TimescaleUnit)>,
 }
 
 #[derive(Clone, Copy)]
@@ -53,11 +33,7 @@ pub struct HeaderAnswer {
 }
 
 // How the items of a scope ended, with the cursor and the count of rows.
-#[derive(Clone, Copy)]
-enum Part {
-    Closed(Cursor, usize),
-    Refused(Refusal, u64, Cursor, usize),
-}
+type Part = Result<(Cursor, usize), (Refusal, u64, Cursor, usize)>;
 
 // The next item: a row without or with items of its own, stored; a command that gives none; or a refusal with its line.
 #[derive(Clone, Copy)]
@@ -92,18 +68,18 @@ pub fn read_header(input: &[u8], c: Cursor, rows: &mut [u64]) -> HeaderAnswer
     let mut n: usize = 0;
     let mut header = nothing();
     loop {
-        match take_item(input, cur, rows, n, cap, Parent::Top, LEVELS) {
+        match take_item(input, cur, rows, n, cap, None, LEVELS) {
             Item::Leaf(d) => {
                 cur = d;
                 n += 1;
             }
             Item::Scope(d) => match parse_scope(input, d, rows, n + 1, n as u64, cap, LEVELS - 1) {
-                Part::Closed(e, m) => {
+                Ok((e, m)) => {
                     cur = e;
                     n = m;
                 }
-                Part::Refused(r, line, e, m) => {
-                    return answer(e, m, header, Ended::Refused(r, line));
+                Err((r, line, e, m)) => {
+                    return answer(e, m, header, Err((r, line)));
                 }
             },
             Item::Other(k, d) => match keep(header, k, d.line) {
@@ -116,7 +92,7 @@ pub fn read_header(input: &[u8], c: Cursor, rows: &mut [u64]) -> HeaderAnswer
                 }
             },
             Item::Refused(r, line, d) => {
-                return answer(d, n, header, Ended::Refused(r, line));
+                return answer(d, n, header, Err((r, line)));
             }
         }
     }
@@ -137,9 +113,9 @@ fn nothing() -> Header
     ensures { result ≡ nothing_kept }
 {
     Header {
-        date: KeptText::None,
-        version: KeptText::None,
-        timescale: KeptTimescale::None,
+        date: None,
+        version: None,
+        timescale: None,
     }
 }
 
@@ -169,7 +145,7 @@ fn parse_scope(
 {
     let mut cur = from;
     let mut n = made;
-    let of = Parent::Of(RowNumber(parent));
+    let of = Some(RowNumber(parent));
     loop {
         let vars = take_vars(input, cur, rows, n, cap, of);
         n = vars.count;
@@ -179,19 +155,19 @@ fn parse_scope(
                 n += 1;
             }
             Item::Scope(d) => match parse_scope(input, d, rows, n + 1, n as u64, cap, levels - 1) {
-                Part::Closed(e, m) => {
+                Ok((e, m)) => {
                     cur = e;
                     n = m;
                 }
-                Part::Refused(r, line, e, m) => {
-                    return Part::Refused(r, line, e, m);
+                Err((r, line, e, m)) => {
+                    return Err((r, line, e, m));
                 }
             },
             Item::Other(k, d) => {
                 return close(k, d, n);
             }
             Item::Refused(r, line, d) => {
-                return Part::Refused(r, line, d, n);
+                return Err((r, line, d, n));
             }
         }
     }
@@ -204,7 +180,7 @@ fn take_vars(
     rows: &mut [u64],
     made: usize,
     cap: usize,
-    parent: Parent,
+    parent: Option<RowNumber>,
 ) -> Taken
     requires { (made ≤ cap) × (cap ≤ 4096) × (10 * cap ≤ length rows.old) }
     ensures { Passes input.now cap parent from rows.old made result.cursor result.count rows.new }
@@ -216,12 +192,12 @@ fn take_vars(
     }
     while n < cap {
         match fast_var::parse_var(input, cur.place) {
-            FastVar::Hit(v, end) => {
+            Some((v, end)) => {
                 rows::put_var(rows, n, parent, v);
                 cur = token::word_read(cur, end, input[end]);
                 n += 1;
             }
-            FastVar::Miss => {
+            None => {
                 return so_far(cur, n);
             }
         }
@@ -242,7 +218,7 @@ fn take_item(
     rows: &mut [u64],
     n: usize,
     cap: usize,
-    parent: Parent,
+    parent: Option<RowNumber>,
     levels: usize,
 ) -> Item
     requires { (cap ≤ 4096) × (10 * cap ≤ length rows.old) × (levels ≤ 64) }
@@ -260,7 +236,7 @@ fn store_item(
     rows: &mut [u64],
     n: usize,
     cap: usize,
-    parent: Parent,
+    parent: Option<RowNumber>,
     levels: usize,
     k: Command,
     d: Cursor,
@@ -309,8 +285,8 @@ fn close(k: Command, d: Cursor, n: usize) -> Part
     ensures { result ≡ close_of k d n }
 {
     match k {
-        Command::Upscope => Part::Closed(d, n),
-        _ => Part::Refused(Refusal::UnexpectedHeaderCommand, d.line, d, n),
+        Command::Upscope => Ok((d, n)),
+        _ => Err((Refusal::UnexpectedHeaderCommand, d.line, d, n)),
     }
 }
 
@@ -323,21 +299,21 @@ fn keep(h: Header, k: Command, line: u64) -> Move
     let timescale = h.timescale;
     match k {
         Command::Date(t) => Move::On(Header {
-            date: KeptText::Is(t),
+            date: Some(t),
             version,
             timescale,
         }),
         Command::Version(t) => Move::On(Header {
             date,
-            version: KeptText::Is(t),
+            version: Some(t),
             timescale,
         }),
         Command::Timescale(n, u) => Move::On(Header {
             date,
             version,
-            timescale: KeptTimescale::Is(n, u),
+            timescale: Some((n, u)),
         }),
-        Command::Enddefinitions => Move::Ends(Ended::Whole),
-        _ => Move::Ends(Ended::Refused(Refusal::UnexpectedHeaderCommand, line)),
+        Command::Enddefinitions => Move::Ends(Ok(())),
+        _ => Move::Ends(Err((Refusal::UnexpectedHeaderCommand, line))),
     }
 }

@@ -1,5 +1,6 @@
 -- The steps of reading an id text from its last byte, over the definitions of specs/Id.antt: where it starts, goes on and ends.
 -- Assumes nothing.
+use Rattle.std.specs.Prelude.{Ok, Err}
 use Prim.Native.Nat.{ℕ, zero, suc, ◌+◌, ◌-◌, ◌*◌, ◌^◌, ◌≤◌, ◌<◌}
 use mathlib.Core.Path.{◌≡◌, refl, ap}
 use mathlib.Core.Bool.{true, false, cond}
@@ -12,7 +13,6 @@ use lib.ListN.{length, get_or, drop}
 use lib.Seq.{drop-cons, drop-length}
 use Rattle.text.proofs.Lists.{cond_both}
 use Rattle.idcode.specs.declared.InvalidIdCode.TheVariants.{Empty, InvalidChars, TooLong}
-use Rattle.idcode.specs.declared.Parsed.TheVariants.{Code, Refused}
 use Rattle.idcode.specs.Id.{parse_id, is_id_byte, all_id, id_tail, sum_from, id_sum}
 use Rattle.idcode.proofs.Laws.{sum-cons, id-byte, id_range, tail-good, tail-bad, tail-most}
 
@@ -25,12 +25,12 @@ pub record ReadFrom (s : List ℕ) (i sum : ℕ) : Type 0 where
   pub means : sum ≡ id_sum (drop i s)
 
 some-text : (s : List ℕ) → 0 < length s → parse_id s ≡
-    cond (leb (2 ^ 64) (id_sum (id_tail s))) (Refused TooLong) (cond (all_id s) (Code (record { 0 = id_sum s - 1 })) (Refused InvalidChars))
+    cond (leb (2 ^ 64) (id_sum (id_tail s))) (Err TooLong) (cond (all_id s) (Ok (record { 0 = id_sum s - 1 })) (Err InvalidChars))
 unfolding parse_id
 some-text [] h = absurd (omega arith)
 some-text (b ∷ s) h = refl
 
-pub read_none : (s : List ℕ) → length s ≡ 0 → Refused Empty ≡ parse_id s
+pub read_none : (s : List ℕ) → length s ≡ 0 → Err Empty ≡ parse_id s
 unfolding parse_id
 read_none [] h = refl
 read_none (b ∷ s) h = absurd (omega arith)
@@ -47,7 +47,7 @@ module _ (s : List ℕ) (i sum : ℕ) (r : ReadFrom s i sum) (h : 0 < i) where
       let next : suc (i - 1) ≡ i = omega arith in
       rw next at (drop-cons s (i - 1) 0 inside)
 
-  pub read-bad : is_id_byte (get_or s (i - 1) 0) ≡ false → Refused InvalidChars ≡ parse_id s
+  pub read-bad : is_id_byte (get_or s (i - 1) 0) ≡ false → Err InvalidChars ≡ parse_id s
   read-bad e =
       let inside : i - 1 < length s = omega arith in
       let next : i ≡ suc (i - 1) = omega arith in
@@ -67,7 +67,7 @@ module _ (s : List ℕ) (i sum : ℕ) (r : ReadFrom s i sum) (h : 0 < i) where
   read_more l u f = record { within = omega arith; some = r.some; fits = f; good = more-good l u; means = more-means }
 
   pub read-long : 33 ≤ get_or s (i - 1) 0 → get_or s (i - 1) 0 ≤ 126 → 2 ^ 64 ≤ sum * 94 + (get_or s (i - 1) 0 - 32)
-      → Refused TooLong ≡ parse_id s
+      → Err TooLong ≡ parse_id s
   read-long l u f =
       let big : 2 ^ 64 ≤ id_sum (id_tail s) = omega (arith, more-means, tail-most s (i - 1) (more-good l u)) in
       rw (some-text s r.some, le-leb (2 ^ 64) (id_sum (id_tail s)) big)
@@ -87,7 +87,7 @@ module _ (s : List ℕ) (i sum : ℕ) (q : ReadFrom s i sum) (h : i ≤ 0) where
   pub read_some : 1 ≤ sum
   read_some = let r = front_read s i sum q h in omega (arith, r.means, some-sum s r.some r.good)
 
-  pub read_done : Code (record { 0 = sum - 1 }) ≡ parse_id s
+  pub read_done : Ok (record { 0 = sum - 1 }) ≡ parse_id s
   read_done =
       let r = front_read s i sum q h in
       let small : id_sum s < 2 ^ 64 = omega (arith, r.means, r.fits) in

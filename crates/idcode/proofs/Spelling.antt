@@ -1,4 +1,5 @@
 -- The steps of writing an id text from its first byte, over the definitions of specs/Id.antt. Assumes nothing.
+use Rattle.std.specs.Prelude.{Some}
 use Prim.Native.Nat.{ℕ, zero, suc, ◌+◌, ◌-◌, ◌*◌, ◌/◌, ◌%◌, ◌^◌, ◌≤◌, ◌<◌}
 use mathlib.Core.Path.{◌≡◌, refl, ◌∙◌, ap}
 use mathlib.Core.List.{List, [], ◌∷◌}
@@ -8,7 +9,6 @@ use native.Mathlib.Omega.{arith}
 use lib.ListN.{length, get_or, drop, set, length-drop}
 use lib.Seq.{drop-cons, take_all}
 use Rattle.text.specs.Texts.{spelled, put_answer, put_bytes}
-use Rattle.text.specs.declared.Placed.{Placed}
 use Rattle.text.proofs.Rows.{Row, row_more, row-end, Copied, copy_more, copy_done}
 use Rattle.idcode.specs.Id.{text_of, id_text}
 use Rattle.idcode.proofs.Laws.{text-room, text-length}
@@ -82,5 +82,5 @@ module _ (code rest n : ℕ) (s : Spelling code rest n) where
   copy-next r = rw left_over (rw here at (copy_more (id_text code) _ _ n r inside))
 
   pub copied : {old out : List ℕ} → Copied (id_text code) old out n → rest < 94
-      → (Placed.Count (n + 1) ≡ put_answer (id_text code) old) × (set out n (33 + (rest - 94 * (rest / 94))) ≡ put_bytes (id_text code) old)
+      → (Some (n + 1) ≡ put_answer (id_text code) old) × (set out n (33 + (rest - 94 * (rest / 94))) ≡ put_bytes (id_text code) old)
   copied r h = copy_done (id_text code) _ _ (n + 1) (copy-next r) (end h)

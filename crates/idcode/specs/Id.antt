@@ -1,10 +1,9 @@
 -- Id codes: what a text means, the text of a code, and the code after one.
-use Rattle.std.specs.Prelude.{ℕ, zero, suc, ◌+◌, ◌-◌, ◌*◌, ◌/◌, ◌%◌, ◌^◌, Bool, true, false, cond, List, [], ◌∷◌, leb, eqb}
+use Rattle.idcode.specs.declared.InvalidIdCode.{InvalidIdCode}
+use Rattle.idcode.specs.declared.IdCode.{IdCode}
+use Rattle.std.specs.Prelude.{ℕ, zero, suc, ◌+◌, ◌-◌, ◌*◌, ◌/◌, ◌%◌, ◌^◌, Bool, true, false, cond, List, [], ◌∷◌, leb, eqb, Option, Some, None, Result, Ok, Err}
 use Rattle.idcode.specs.Ieee.{first_character, last_character}
 use Rattle.idcode.specs.declared.InvalidIdCode.TheVariants.{Empty, InvalidChars, TooLong}
-use Rattle.idcode.specs.declared.Parsed.{Parsed}
-use Rattle.idcode.specs.declared.Parsed.TheVariants.{Code, Refused}
-use Rattle.idcode.specs.declared.Following.{Following}
 
 -- a byte of an id text: 33 to 126
 unfoldable pub is_id_byte : ℕ → Bool
@@ -29,11 +28,11 @@ id_sum s = sum_from 0 s
 
 -- Read from the last byte: too long if the id bytes at the end already sum to 2^64 or more, since the overflow is
 -- met before any bad byte; else a bad byte refuses; else the text means its sum, minus 1.
-unfoldable pub parse_id : List ℕ → Parsed
-parse_id [] = Refused Empty
+unfoldable pub parse_id : List ℕ → Result IdCode InvalidIdCode
+parse_id [] = Err Empty
 parse_id (b ∷ s) =
-    cond (leb (2 ^ 64) (id_sum (id_tail (b ∷ s)))) (Refused TooLong)
-    (cond (all_id (b ∷ s)) (Code (record { 0 = id_sum (b ∷ s) - 1 })) (Refused InvalidChars))
+    cond (leb (2 ^ 64) (id_sum (id_tail (b ∷ s)))) (Err TooLong)
+    (cond (all_id (b ∷ s)) (Ok (record { 0 = id_sum (b ∷ s) - 1 })) (Err InvalidChars))
 
 -- the text whose sum is n, in at most `most` bytes: the digits of n in base 94, counted 1 to 94, the smallest place first
 unfoldable pub text_of : ℕ → ℕ → List ℕ
@@ -46,5 +45,5 @@ abbrev pub id_text : ℕ → List ℕ
 id_text code = text_of (suc code) (suc code)
 
 -- the code after one; the largest number has none
-unfoldable pub following : ℕ → Following
-following code = cond (eqb code (2 ^ 64 - 1)) Following.Nothing (Following.Code (record { 0 = code + 1 }))
+unfoldable pub following : ℕ → Option IdCode
+following code = cond (eqb code (2 ^ 64 - 1)) None (Some (record { 0 = code + 1 }))

@@ -5,7 +5,7 @@ ghost use Rattle.std.specs.Prelude.{◌≡◌, length};
 ghost use Rattle.text.specs.Texts.{spelled, put_answer, put_bytes};
 ghost use Rattle.idcode.specs.Id.{parse_id, id_text, following};
 
-use text::{Placed, Spelled};
+use text::Spelled;
 
 #[derive(Clone, Copy)]
 pub enum InvalidIdCode {
@@ -18,55 +18,40 @@ pub enum InvalidIdCode {
 #[derive(Clone, Copy)]
 pub struct IdCode(pub u64);
 
-#[derive(Clone, Copy)]
-pub enum Parsed {
-    Code(IdCode),
-    Refused(InvalidIdCode),
-}
-
-#[derive(Clone, Copy)]
-pub enum Following {
-    Code(IdCode),
-    Nothing,
-}
-
 impl IdCode {
     // An arbitrary code with a short text.
     pub const FIRST: IdCode = IdCode(0);
 
     // The code that a text means. It is read from the last byte; a bad byte is judged before the step's overflow.
-    pub fn from_str(s: &[u8]) -> Parsed
+    pub fn from_str(s: &[u8]) -> Result<IdCode, InvalidIdCode>
         ensures { result ≡ parse_id s.now }
     {
-        if s.len() == 0 {
-            return Parsed::Refused(InvalidIdCode::Empty);
+        if s.is_empty() {
+            return Err(InvalidIdCode::Empty);
         }
         let mut sum: u64 = 0;
-        let mut i = s.len();
-        while 0 < i {
-            let b = s[i - 1];
-            if b < 33 || 126 < b {
-                return Parsed::Refused(InvalidIdCode::InvalidChars);
+        for &b in s.iter().rev() {
+            if b < b'!' || b'~' < b {
+                return Err(InvalidIdCode::InvalidChars);
             }
             let c = (b - 32) as u64;
-            if (18446744073709551615 - c) / 94 < sum {
-                return Parsed::Refused(InvalidIdCode::TooLong);
+            if (u64::MAX - c) / 94 < sum {
+                return Err(InvalidIdCode::TooLong);
             }
             sum = sum * 94 + c;
-            i -= 1;
         }
-        Parsed::Code(IdCode(sum - 1))
+        Ok(IdCode(sum - 1))
     }
 
     // The code after this one.
-    pub fn next(self) -> Following
+    #[tactic(auto, unfolding(crate::specs::Id::following))]
+    pub fn next(self) -> Option<IdCode>
         ensures { result ≡ following self.0 }
     {
-        let code = self.0;
-        if code == 18446744073709551615 {
-            return Following::Nothing;
+        match self.0.checked_add(1) {
+            Some(code) => Some(IdCode(code)),
+            None => None,
         }
-        Following::Code(IdCode(code + 1))
     }
 
     pub fn from_u32(i: u32) -> IdCode
@@ -81,7 +66,8 @@ impl IdCode {
         IdCode(i)
     }
 
-    // The text of a code. The largest u64 has one too, which `from_str` refuses as too long.
+    // The text of a code. The largest u64 has one too, which `from_str` refuses as too long. Here and below the number that is left
+    // drives the loop, and there is no list to go over.
     pub fn spell(self) -> Spelled
         ensures { result ≡ spelled (id_text self.0) }
     {
@@ -113,12 +99,12 @@ impl IdCode {
     }
 
     // The text of a code, put at the start of `out`.
-    pub fn put(self, out: &mut [u8]) -> Placed
+    pub fn put(self, out: &mut [u8]) -> Option<usize>
         ensures { (result ≡ put_answer (id_text self.0) out.old) × (out.new ≡ put_bytes (id_text self.0) out.old) }
     {
         // No text of a code has more than ten bytes.
         if out.len() < 10 && out.len() < self.len() {
-            return Placed::NoRoom;
+            return None;
         }
         let mut rest = self.0;
         let mut n: usize = 0;
@@ -127,7 +113,7 @@ impl IdCode {
             out[n] = 33 + (rest - 94 * more) as u8;
             n += 1;
             if more == 0 {
-                return Placed::Count(n);
+                return Some(n);
             }
             rest = more - 1;
         }

@@ -23,6 +23,7 @@ fn take_turns(
     requires { (length rows.old ≡ row_words) × (length changes.old ≡ change_words) }
 {
     let mut state = State::Begin;
+    // How many turns there are is known by the last alone.
     while !list_job::is_finished(state) {
         let t = list_job::take_turn(input, state, rows, changes, out);
         if !console::write_front(stdout, out, t.count) {
@@ -31,8 +32,7 @@ fn take_turns(
                 whole: false,
             };
         }
-        let next = t.next;
-        state = next;
+        state = t.next;
     }
     Printed {
         written: true,

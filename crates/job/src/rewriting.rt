@@ -11,6 +11,7 @@ pub fn print_reformat(stdout: Stdout, input: &[u8], out: &mut [u8]) -> Printed {
 
 fn take_turns(stdout: Stdout, input: &[u8], rows: &mut [u64], out: &mut [u8]) -> Printed {
     let mut state = State::Begin;
+    // How many turns there are is known by the last alone.
     while !reformat_job::is_finished(state) {
         let t = reformat_job::take_turn(input, state, rows, out);
         if !console::write_front(stdout, out, t.count) {
@@ -19,8 +20,7 @@ fn take_turns(stdout: Stdout, input: &[u8], rows: &mut [u64], out: &mut [u8]) ->
                 whole: false,
             };
         }
-        let next = t.next;
-        state = next;
+        state = t.next;
     }
     Printed {
         written: true,

@@ -3,7 +3,7 @@ use Rattle.std.specs.Prelude.{ℕ, List, [], ◌∷◌, ◌++◌}
 use Rattle.text.specs.Bytes.{bytes}
 use Rattle.command.specs.Refusals.{number_of}
 use Rattle.parser.specs.Next.{next_from, fresh}
-use Rattle.parser_part.specs.declared.Next.{Next}
+use Rattle.parser.specs.declared.Next.{Next}
 
 -- a refusal's number; 0 for a command, 255 at the end
 abbrev pub numbered : Next → ℕ

@@ -6,26 +6,36 @@ ghost use Rattle.std.specs.Prelude.{◌≡◌, get_or};
 ghost use Rattle.lent_rows.specs.Rows.{header_in, placed};
 ghost use Rattle.lent_example.specs.Uses.{Two, no_row, no_rows};
 
-use command::Command;
+use command::{Command, Refusal};
 use lent_rows::{HeaderRow, ScopeItem};
-use lent_writer::Wrote;
-use rows::Parent;
 use scope::ScopeType;
 use text::Text;
 use token::Cursor;
 use write::Writer;
 
 // Writes two commands, each to its own output, and answers the second, which is judged by the state that the first one left.
-pub fn write_two(src: &[u8], a: Command, b: Command, first: &mut [u8], second: &mut [u8]) -> Wrote
+pub fn write_two(
+    src: &[u8],
+    a: Command,
+    b: Command,
+    first: &mut [u8],
+    second: &mut [u8],
+) -> Result<usize, Refusal>
     ensures { Two result first.new second.new src.now a b first.old second.old }
 {
     let mut w = Writer::new();
-    lent_writer::write_command(&mut w, src, a, first);
+    // A refused command leaves the state as it was, so the first answer is not asked for.
+    let _ = lent_writer::write_command(&mut w, src, a, first);
     lent_writer::write_command(&mut w, src, b, second)
 }
 
 // An empty module. Upscope is refused at the top, so the answer shows that the state went from one call to the next.
-pub fn write_module(src: &[u8], name: Text, first: &mut [u8], second: &mut [u8]) -> Wrote
+pub fn write_module(
+    src: &[u8],
+    name: Text,
+    first: &mut [u8],
+    second: &mut [u8],
+) -> Result<usize, Refusal>
     ensures { Two result first.new second.new src.now (Command.ScopeDef ScopeType.Module name) Command.Upscope first.old second.old }
 {
     write_two(
@@ -42,7 +52,7 @@ fn no_row() -> HeaderRow
     ensures { result ≡ no_row }
 {
     HeaderRow {
-        parent: Parent::Top,
+        parent: None,
         item: ScopeItem::None,
     }
 }

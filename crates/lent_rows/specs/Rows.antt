@@ -1,9 +1,8 @@
 -- A header's rows as structs, and a lent list of structs whose first ones are those.
-use Rattle.std.specs.Prelude.{ℕ, zero, suc, ◌+◌, ◌*◌, ◌/◌, min, List, [], ◌∷◌, ◌++◌, length, take, drop, replicate}
+use Rattle.std.specs.Prelude.{ℕ, zero, suc, ◌+◌, ◌*◌, ◌/◌, min, List, [], ◌∷◌, ◌++◌, length, take, drop, replicate, None}
 use Rattle.scope.specs.Limits.{most_rows}
 use Rattle.header.specs.Header.{Outcome, header_of, read_rows, nothing}
 use Rattle.rows.specs.Rows.{row_at}
-use Rattle.rows.specs.declared.Parent.{Parent}
 use Rattle.rows.specs.declared.Row.{Row}
 use Rattle.parser.specs.All.{commands}
 use Rattle.token.specs.declared.Cursor.{Cursor}
@@ -14,7 +13,7 @@ abbrev pub struct_of : Row → HeaderRow
 struct_of (Row.Scope p k t) = record { parent = p; item = ScopeItem.Scope k t }
 struct_of (Row.Var p v) = record { parent = p; item = ScopeItem.Var v }
 struct_of (Row.Comment p t) = record { parent = p; item = ScopeItem.Comment t }
-struct_of Row.None = record { parent = Parent.Top; item = ScopeItem.None }
+struct_of Row.None = record { parent = None; item = ScopeItem.None }
 
 -- what reading the header at a cursor gives where there is room for n rows: `header_of` of a table of that many
 abbrev pub header_in : List ℕ → Cursor → ℕ → Outcome

@@ -7,7 +7,7 @@ ghost use Rattle.header.specs.Header.{answer_of};
 ghost use Rattle.lent_rows.specs.Rows.{struct_of, fill_rows, header_in, header_into, placed};
 
 use header::HeaderAnswer;
-use rows::{Parent, Row};
+use rows::{Row, RowNumber};
 use scope::{ScopeType, Var};
 use text::Text;
 use token::Cursor;
@@ -24,7 +24,7 @@ pub enum ScopeItem {
 // A row of a header: the scope that it stands in, and what it is.
 #[derive(Clone, Copy)]
 pub struct HeaderRow {
-    pub parent: Parent,
+    pub parent: Option<RowNumber>,
     pub item: ScopeItem,
 }
 
@@ -60,21 +60,20 @@ fn struct_at(words: &[u64], i: usize) -> HeaderRow
             item: ScopeItem::Comment(t),
         },
         Row::None => HeaderRow {
-            parent: Parent::Top,
+            parent: None,
             item: ScopeItem::None,
         },
     }
 }
 
 // The first `n` rows, or as many as there are, from a flat table; the later ones stay.
+#[tactic(auto, unfolding(crate::specs::Rows::fill_rows))]
 fn fill(words: &[u64], rows: &mut [HeaderRow], n: usize)
     ensures { rows.new ≡ fill_rows 0 n words.now rows.old }
 {
     let m = text::least(n, rows.len());
-    let mut k: usize = 0;
-    while k < m {
+    for k in 0..m {
         rows[k] = struct_at(words, k);
-        k += 1;
     }
 }
 

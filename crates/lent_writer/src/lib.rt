@@ -8,18 +8,11 @@ ghost use Rattle.lent_writer.specs.Lent.{lent_answer, lent_state, lent_step};
 use command::{Command, Refusal};
 use write::{Writer, Written};
 
-// How many bytes a command took at the start of the output, or why it was refused.
-#[derive(Clone, Copy)]
-pub enum Wrote {
-    Bytes(usize),
-    Refused(Refusal),
-}
-
 // The state after a command beside what it answers.
 #[derive(Clone, Copy)]
 struct Stepped {
     state: Writer,
-    answer: Wrote,
+    answer: Result<usize, Refusal>,
 }
 
 // One command by value: a refused one hands the state back as it was.
@@ -27,19 +20,24 @@ fn step(w: Writer, src: &[u8], c: Command, out: &mut [u8]) -> Stepped
     ensures { (result ≡ lent_step w (call w src.now c out.old).answer) × (out.new ≡ (call w src.now c out.old).left) }
 {
     match w.command(src, c, out) {
-        Written::Bytes(n, state) => Stepped {
+        Ok((n, state)) => Stepped {
             state,
-            answer: Wrote::Bytes(n),
+            answer: Ok(n),
         },
-        Written::Refused(e) => Stepped {
+        Err(e) => Stepped {
             state: w,
-            answer: Wrote::Refused(e),
+            answer: Err(e),
         },
     }
 }
 
 // Writes a command as read by the parser. Behind the reference stands the next state then, or the same where the command was refused.
-pub fn write_command(w: &mut Writer, src: &[u8], c: Command, out: &mut [u8]) -> Wrote
+pub fn write_command(
+    w: &mut Writer,
+    src: &[u8],
+    c: Command,
+    out: &mut [u8],
+) -> Result<usize, Refusal>
     ensures { (result ≡ lent_answer (call w.old src.now c out.old).answer)
         × (w.new ≡ lent_state w.old (call w.old src.now c out.old).answer)
         × (out.new ≡ (call w.old src.now c out.old).left) }

@@ -1,4 +1,5 @@
 -- Rows printed one a turn: what is put already, with what is still to come, is what the whole puts.
+use Rattle.std.specs.Prelude.{Option, Some, None}
 use Prim.Native.Nat.{ℕ, suc, ◌+◌, ◌-◌, ◌≤◌, ◌<◌}
 use mathlib.Core.Path.{◌≡◌, sym, ◌∙◌}
 use mathlib.Core.List.{List, [], ◌∷◌, ◌++◌}
@@ -11,7 +12,6 @@ use Rattle.emit.specs.Put.{concat, stored}
 use Rattle.emit.proofs.Storing.{stored-none, stored_next, stored-length, part-put, part_none}
 use Rattle.change.specs.Rows.{change_at}
 use Rattle.change.specs.declared.Change.{Change}
-use Rattle.text.specs.declared.Placed.{Placed}
 use Rattle.lines.specs.Lines.{change_line, lines_from, fitting, put, answer_of, filled}
 use Rattle.lines.specs.declared.Lines.{Lines}
 use Rattle.lines.proofs.Laying.{Laid}
@@ -71,17 +71,17 @@ module _ (s name : List ℕ) (width : ℕ) (table : List ℕ) where
       going_end h = stopped (come-end (length out - count) next to h)
 
       -- a call was lent the bytes from `count` on, for the line of the next row
-      module _ (h : next < to) {change : Change} (f : change ≡ change_at table next) {x : Placed} {ys : List ℕ}
+      module _ (h : next < to) {change : Change} (f : change ≡ change_at table next) {x : Option ℕ} {ys : List ℕ}
           (d : Laid (change_line s name width change) (take (length out - count) (drop count out)) x ys) where
         e : Laid (line next) (take (length out - count) (drop count out)) x ys
         e = rw f at d
 
-        pub going-full : x ≡ Placed.NoRoom → Done (put_mid count (length out - count) out ys) next count
+        pub going-full : x ≡ None → Done (put_mid count (length out - count) out ys) next count
         going-full q =
             let y = part_none (line next) out count (length out - count) (omega (arith, g.within)) e q in
             rw y.1 (stopped (come-none (length out - count) next to h y.0))
 
-        pub going_more : (n : ℕ) → x ≡ Placed.Count n → Going (put_mid count (length out - count) out ys) (next + 1) (count + n)
+        pub going_more : (n : ℕ) → x ≡ Some n → Going (put_mid count (length out - count) out ys) (next + 1) (count + n)
         going_more n q =
             let y = part-put (line next) out count (length out - count) (omega (arith, g.within)) e n q in
             let m = come-more (length out - count) next to h y.1 in

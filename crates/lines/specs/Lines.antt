@@ -1,11 +1,11 @@
 -- The lines that the programs print, and the limits that both keep.
-use Rattle.std.specs.Prelude.{ℕ, zero, suc, ◌+◌, ◌-◌, cond, List, [], ◌∷◌, ◌++◌, leb, length, drop}
+use Rattle.command.specs.declared.Time.{Time}
+use Rattle.std.specs.Prelude.{ℕ, zero, suc, ◌+◌, ◌-◌, cond, List, [], ◌∷◌, ◌++◌, leb, length, drop, Option, Some, None}
 use Rattle.emit.specs.Put.{concat}
 use Rattle.change.specs.Rows.{change_at}
 use Rattle.widen.specs.Widen.{widened}
 use Rattle.change.specs.declared.Change.{Change}
 use Rattle.change.specs.declared.ChangeKind.{ChangeKind}
-use Rattle.change.specs.declared.Since.{Since}
 use Rattle.number.specs.Decimal.{decimal_of}
 use Rattle.text.specs.Bytes.{bytes}
 use Rattle.text.specs.Texts.{part}
@@ -21,9 +21,9 @@ header_rows = 256
 abbrev pub long_line : List ℕ
 long_line = bytes "input too long\n"
 
-abbrev pub time_text : Since → List ℕ
-time_text Since.None = bytes "-"
-time_text (Since.Time t) = decimal_of t.0
+abbrev pub time_text : Option Time → List ℕ
+time_text None = bytes "-"
+time_text (Some t) = decimal_of t.0
 
 -- scalars and vectors in lower case, a vector at its width; real and string texts as read
 abbrev pub value_text : ℕ → ChangeKind → List ℕ → List ℕ

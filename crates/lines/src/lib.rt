@@ -10,8 +10,9 @@ ghost use Rattle.value.specs.Values.{lower, filled_with};
 ghost use Rattle.value.specs.declared.Value.{Value};
 ghost use Rattle.lines.specs.Lines.{time_text, change_line, full_line, refused_line, long_line, put as put_lines, answer_of, filled};
 
-use listing::{Change, ChangeKind, Since};
-use text::{Placed, Spelled};
+use command::Time;
+use listing::{Change, ChangeKind};
+use text::Spelled;
 
 // The longest dump that the programs take, and the most rows of its header.
 pub const TAKEN: usize = 65536;
@@ -38,6 +39,7 @@ pub fn put_changes(
     ensures answer { result ≡ answer_of from (put_lines input.now name.now width changes.now from to out.old) }
     ensures bytes { out.new ≡ filled (put_lines input.now name.now width changes.now from to out.old) out.old }
 {
+    // Which row is the next is an answer too, so the loop keeps it.
     let mut next = from;
     let mut count: usize = 0;
     while next < to {
@@ -48,11 +50,11 @@ pub fn put_changes(
             listing::change_at(changes, next),
             &mut out[count..],
         ) {
-            Placed::Count(n) => {
+            Some(n) => {
                 count += n;
                 next += 1;
             }
-            Placed::NoRoom => {
+            None => {
                 return Lines { next, count };
             }
         }
@@ -61,11 +63,17 @@ pub fn put_changes(
 }
 
 // The line of one change.
-pub fn put_change(input: &[u8], name: &[u8], width: u32, change: Change, out: &mut [u8]) -> Placed
+pub fn put_change(
+    input: &[u8],
+    name: &[u8],
+    width: u32,
+    change: Change,
+    out: &mut [u8],
+) -> Option<usize>
     ensures { (result ≡ put_answer (change_line input.now name.now width change) out.old) × (out.new ≡ put_bytes (change_line input.now name.now width change) out.old) }
 {
     match change {
-        Change::None => Placed::Count(0),
+        Change::None => Some(0),
         Change::Is(since, line, kind, v) => {
             let value = text::part(input, v);
             let t = time_text(since);
@@ -98,24 +106,24 @@ pub fn put_change(input: &[u8], name: &[u8], width: u32, change: Change, out: &m
     }
 }
 
-fn time_text(since: Since) -> Spelled
+fn time_text(since: Option<Time>) -> Spelled
     ensures { result ≡ spelled (time_text since) }
 {
     match since {
-        Since::None => text::spell(b"-"),
-        Since::Time(t) => number::decimal(t.0),
+        None => text::spell(b"-"),
+        Some(t) => number::decimal(t.0),
     }
 }
 
 // `NAME full`.
-pub fn put_full(name: &[u8], out: &mut [u8]) -> Placed
+pub fn put_full(name: &[u8], out: &mut [u8]) -> Option<usize>
     ensures { (result ≡ put_answer (full_line name.now) out.old) × (out.new ≡ put_bytes (full_line name.now) out.old) }
 {
     emit::emit(name, b" full\n", b"", b"", b"", out)
 }
 
 // `refused NUMBER at LINE`.
-pub fn put_refused(number: u64, line: u64, out: &mut [u8]) -> Placed
+pub fn put_refused(number: u64, line: u64, out: &mut [u8]) -> Option<usize>
     ensures { (result ≡ put_answer (refused_line number line) out.old) × (out.new ≡ put_bytes (refused_line number line) out.old) }
 {
     let n = number::decimal(number);
@@ -133,14 +141,14 @@ pub fn put_refused(number: u64, line: u64, out: &mut [u8]) -> Placed
 }
 
 // `input too long`.
-pub fn put_long(out: &mut [u8]) -> Placed
+pub fn put_long(out: &mut [u8]) -> Option<usize>
     ensures { (result ≡ put_answer long_line out.old) × (out.new ≡ put_bytes long_line out.old) }
 {
     text::put_text(b"input too long\n", out)
 }
 
 // A line whose value is a text.
-fn lay_text(name: &[u8], time: &[u8], line: &[u8], value: &[u8], out: &mut [u8]) -> Placed
+fn lay_text(name: &[u8], time: &[u8], line: &[u8], value: &[u8], out: &mut [u8]) -> Option<usize>
     ensures { (result ≡ put_answer (concat (name.now ∷ bytes " " ∷ time.now ∷ bytes " " ∷ line.now ∷ bytes " " ∷ value.now ∷ bytes "\n" ∷ [])) out.old) × (out.new ≡ put_bytes (concat (name.now ∷ bytes " " ∷ time.now ∷ bytes " " ∷ line.now ∷ bytes " " ∷ value.now ∷ bytes "\n" ∷ [])) out.old) }
 {
     if !has_room(
@@ -151,10 +159,10 @@ fn lay_text(name: &[u8], time: &[u8], line: &[u8], value: &[u8], out: &mut [u8])
         0,
         value.len(),
     ) {
-        return Placed::NoRoom;
+        return None;
     }
     let n = emit::put_five(out, 0, name, b" ", time, b" ", line);
-    Placed::Count(emit::put_five(out, n, b" ", value, b"\n", b"", b""))
+    Some(emit::put_five(out, n, b" ", value, b"\n", b"", b""))
 }
 
 // A line whose value is in lower case after so many zeros.
@@ -165,7 +173,7 @@ fn lay_wide(
     zeros: usize,
     value: &[u8],
     out: &mut [u8],
-) -> Placed
+) -> Option<usize>
     ensures { (result ≡ put_answer (concat (name.now ∷ bytes " " ∷ time.now ∷ bytes " " ∷ line.now ∷ bytes " " ∷ (filled_with Value.V0 zeros ++ map lower value.now) ∷ bytes "\n" ∷ [])) out.old) × (out.new ≡ put_bytes (concat (name.now ∷ bytes " " ∷ time.now ∷ bytes " " ∷ line.now ∷ bytes " " ∷ (filled_with Value.V0 zeros ++ map lower value.now) ∷ bytes "\n" ∷ [])) out.old) }
 {
     if !has_room(
@@ -176,10 +184,10 @@ fn lay_wide(
         zeros,
         value.len(),
     ) {
-        return Placed::NoRoom;
+        return None;
     }
     let n = emit::put_five(out, 0, name, b" ", time, b" ", line);
-    Placed::Count(put_wide(out, n, zeros, value))
+    Some(put_wide(out, n, zeros, value))
 }
 
 // A space, so many zeros, the values in lower case, and the newline.
@@ -204,16 +212,12 @@ fn has_room(room: usize, name: usize, time: usize, line: usize, zeros: usize, va
 }
 
 // Puts so many zeros into `out` from `at` on, and answers the place after them.
+#[tactic(auto, using(emit::proofs::Storing::stored_filled))]
 fn put_zeros(out: &mut [u8], at: usize, zeros: usize) -> usize
     requires { at + zeros ≤ length out.old }
     ensures { (result ≡ at + length (filled_with Value.V0 zeros)) × (out.new ≡ stored out.old at (filled_with Value.V0 zeros)) }
 {
-    let mut n = at;
-    let mut i: usize = 0;
-    while i < zeros {
-        out[n] = b'0';
-        n += 1;
-        i += 1;
-    }
-    n
+    let end = at + zeros;
+    out[at..end].fill(b'0');
+    end
 }

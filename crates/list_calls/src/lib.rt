@@ -6,10 +6,8 @@
 ghost use Rattle.std.specs.Prelude.{◌≡◌};
 ghost use Rattle.list_calls.specs.Listings.{list_call, list_on_call, status_of};
 
-use change::SinceRead;
 use idcode::IdCode;
 use listing::Ended;
-use vcd_state::CursorRead;
 
 const OK: u64 = 0;
 
@@ -42,10 +40,10 @@ pub fn list_on(
     ensures count { count.new ≡ (list_on_call input.now cursor.old since.old code rows.old count.old).count }
 {
     match vcd_state::cursor_of(cursor) {
-        CursorRead::Bad => BAD_PLACE,
-        CursorRead::Is(c) => match change::since_in(since) {
-            SinceRead::Bad => BAD_PLACE,
-            SinceRead::Is(t) => {
+        None => BAD_PLACE,
+        Some(c) => match change::since_in(since) {
+            None => BAD_PLACE,
+            Some(t) => {
                 let a = listing::list_on(input, c, t, IdCode(code), rows);
                 let d = a.cursor;
                 let last = a.since;
@@ -63,7 +61,7 @@ fn status(e: Ended) -> u64
     ensures { result ≡ status_of e }
 {
     match e {
-        Ended::Whole => OK,
-        Ended::Refused(r, _) => r.number(),
+        Ok(()) => OK,
+        Err((r, _)) => r.number(),
     }
 }

@@ -1,4 +1,7 @@
 -- A line that is put whole or not at all, as lines that have room.
+use Rattle.command.specs.Refusals.{Ended}
+use Rattle.std.specs.Prelude.{Option, Some, None, Ok, Err}
+use Rattle.rows.specs.declared.RowNumber.{RowNumber}
 use Prim.Native.Nat.{ℕ, ◌+◌, ◌≤◌, ◌<◌}
 use mathlib.Core.Path.{◌≡◌, refl, sym, ap, ◌∙◌}
 use mathlib.Core.Bool.{Bool, true, false}
@@ -11,26 +14,21 @@ use Rattle.command.specs.Refusals.{number_of}
 use Rattle.command.specs.declared.Refusal.{Refusal}
 use Rattle.header.specs.Header.{header_of, answer_of as header_answer}
 use Rattle.rows.specs.Rows.{row_at, filled as header_filled}
-use Rattle.header.specs.declared.Ended.{Ended as HeaderEnded}
 use Rattle.header.specs.declared.HeaderAnswer.{HeaderAnswer}
 use Rattle.rows.specs.declared.Row.{Row}
-use Rattle.rows.specs.declared.Parent.{Parent}
 use Rattle.lines.specs.Lines.{taken, fitting, filled, full_line, refused_line, put, answer_of}
 use Rattle.lines.specs.declared.Lines.{Lines}
 use Rattle.change.specs.Rows.{filled as list_filled}
 use Rattle.listing.specs.Listing.{list_of, answer_of as list_answer}
-use Rattle.listing.specs.declared.Ended.{Ended}
 use Rattle.listing.specs.declared.ListAnswer.{ListAnswer}
 use Rattle.parser.specs.Next.{fresh as fresh_cursor}
 use Rattle.scope.specs.declared.Var.{Var}
 use Rattle.text.specs.Texts.{part}
 use Rattle.token.specs.declared.Cursor.{Cursor}
 use Rattle.text.specs.Texts.{put_answer, put_bytes}
-use Rattle.text.specs.declared.Placed.{Placed}
 use Rattle.text.proofs.Lists.{by-test}
 use Rattle.list_job.specs.Whole.{met_lines, is_full, met_then, end_lines, long_lines}
 use Rattle.list_job.specs.Turns.{Does, Begins, Lists, Prints, Puts, fit, count_of, final, row_on, begin_turn, next_row, met_row, row_then, row_turn, ahead, lines_turn}
-use Rattle.list_job.specs.declared.Met.{Met}
 use Rattle.list_job.specs.declared.Place.{Place}
 use Rattle.list_job.specs.declared.Printing.{Printing}
 use Rattle.list_job.specs.declared.State.{State}
@@ -40,41 +38,41 @@ pub puts_none : (out : List ℕ) → Puts 0 out [] out
 unfolding fitting
 puts_none out = (refl, refl)
 
-pub puts-line : {r : Placed} {out : List ℕ} {n : ℕ} (l : List ℕ) (out₀ : List ℕ) → n ≡ count_of r → r ≡ put_answer l out₀ → out ≡ put_bytes l out₀ → Puts n out (l ∷ []) out₀
+pub puts-line : {r : Option ℕ} {out : List ℕ} {n : ℕ} (l : List ℕ) (out₀ : List ℕ) → n ≡ count_of r → r ≡ put_answer l out₀ → out ≡ put_bytes l out₀ → Puts n out (l ∷ []) out₀
 unfolding fitting put_answer put_bytes
 puts-line l out₀ e p q =
     by-test (leb (length l) (length out₀))
     (λ t. (e ∙ ap count_of p ∙ rw (t, append-nil l), q ∙ rw (t, append-nil l)))
     (λ t. (e ∙ ap count_of p ∙ rw t, q ∙ rw t))
 
-abbrev Laid : List ℕ → List ℕ → Placed → List ℕ → Type 0
+abbrev Laid : List ℕ → List ℕ → Option ℕ → List ℕ → Type 0
 Laid l out₀ r out = (r ≡ put_answer l out₀) × (out ≡ put_bytes l out₀)
 
 -- ---- a refusal that was met
-pub met-none : (m : Met) (out : List ℕ) → m ≡ Met.Nothing → Puts 0 out (met_lines m) out
+pub met-none : (m : Option (Refusal × ℕ)) (out : List ℕ) → m ≡ None → Puts 0 out (met_lines m) out
 met-none m out q = rw q (puts_none out)
 
-pub met-line : {r : Placed} {out : List ℕ} {k n l : ℕ} {e : Refusal} (m : Met) (out₀ : List ℕ) → m ≡ Met.Refused e l → n ≡ number_of e → k ≡ count_of r
+pub met-line : {r : Option ℕ} {out : List ℕ} {k n l : ℕ} {e : Refusal} (m : Option (Refusal × ℕ)) (out₀ : List ℕ) → m ≡ Some (e, l) → n ≡ number_of e → k ≡ count_of r
     → Laid (refused_line n l) out₀ r out → Puts k out (met_lines m) out₀
 met-line {r} {out} {k} {n} {l} {e} m out₀ q a b d =
     let d' : Laid (refused_line (number_of e) l) out₀ r out = rw a at d in
     rw q (puts-line (refused_line (number_of e) l) out₀ b d'.0 d'.1)
 
-pub end_whole : (name : List ℕ) (x : Ended) (out : List ℕ) → x ≡ Ended.Whole → Puts 0 out (end_lines name x) out
+pub end_whole : (name : List ℕ) (x : Ended) (out : List ℕ) → x ≡ (Ok tt) → Puts 0 out (end_lines name x) out
 end_whole name x out q = rw q (puts_none out)
 
-pub end-other : {e : Refusal} {l : ℕ} {b : Bool} (name : List ℕ) (x : Ended) (out : List ℕ) → x ≡ Ended.Refused e l → b ≡ is_full e → b ≡ false
+pub end-other : {e : Refusal} {l : ℕ} {b : Bool} (name : List ℕ) (x : Ended) (out : List ℕ) → x ≡ Err (e, l) → b ≡ is_full e → b ≡ false
     → Puts 0 out (end_lines name x) out
 end-other name x out q a b = rw (q, sym a ∙ b) (puts_none out)
 
-pub end-full : {r : Placed} {out : List ℕ} {k : ℕ} {e : Refusal} {l : ℕ} {b : Bool} (name : List ℕ) (x : Ended) (out₀ : List ℕ) → x ≡ Ended.Refused e l
+pub end-full : {r : Option ℕ} {out : List ℕ} {k : ℕ} {e : Refusal} {l : ℕ} {b : Bool} (name : List ℕ) (x : Ended) (out₀ : List ℕ) → x ≡ Err (e, l)
     → b ≡ is_full e → b ≡ true → k ≡ count_of r → Laid (full_line name) out₀ r out → Puts k out (end_lines name x) out₀
 end-full name x out₀ q a b g d = rw (q, sym a ∙ b) (puts-line (full_line name) out₀ g d.0 d.1)
 
-pub then-full : {e : Refusal} {l : ℕ} {b : Bool} (m : Met) (x : Ended) → x ≡ Ended.Refused e l → b ≡ is_full e → b ≡ true → m ≡ met_then m x
+pub then-full : {e : Refusal} {l : ℕ} {b : Bool} (m : Option (Refusal × ℕ)) (x : Ended) → x ≡ Err (e, l) → b ≡ is_full e → b ≡ true → m ≡ met_then m x
 then-full m x q a b = rw (q, sym a ∙ b)
 
-pub then-other : {e : Refusal} {l : ℕ} {b : Bool} (m : Met) (x : Ended) → x ≡ Ended.Refused e l → b ≡ is_full e → b ≡ false → Met.Refused e l ≡ met_then m x
+pub then-other : {e : Refusal} {l : ℕ} {b : Bool} (m : Option (Refusal × ℕ)) (x : Ended) → x ≡ Err (e, l) → b ≡ is_full e → b ≡ false → Some (e, l) ≡ met_then m x
 then-other m x q a b = rw (q, sym a ∙ b)
 
 -- ---- turns
@@ -93,17 +91,17 @@ module _ (s rows₀ out₀ : List ℕ) (h : length s ≤ taken) {a : HeaderAnswe
   ended : a.ended ≡ (header_of s fresh_cursor rows₀).ended
   ended = ap (λ (x : HeaderAnswer). x.ended) q ∙ ap (λ (x : Cursor). (header_of s x rows₀).ended) f
 
-  pub begin-whole : a.ended ≡ HeaderEnded.Whole
-      → Begins (record { count = 0; next = State.Row (record { cursor = a.cursor; count = a.count; row = 0; met = Met.Nothing; whole = true }) }) rows out₀ s rows₀ out₀
+  pub begin-whole : a.ended ≡ (Ok tt)
+      → Begins (record { count = 0; next = State.Row (record { cursor = a.cursor; count = a.count; row = 0; met = None; whole = true }) }) rows out₀ s rows₀ out₀
   unfolding begin_turn
   begin-whole g changes =
       rw (le-ltb taken (length s) h, sym ended ∙ g) (rw (q, w, f) (record { count = refl; next = refl; table = refl; list = refl; bytes = refl }))
 
-  pub begin-refused : {e : Refusal} {l n : ℕ} {out : List ℕ} {r : Turn} → a.ended ≡ HeaderEnded.Refused e l → Puts n out (met_lines (Met.Refused e l)) out₀
+  pub begin-refused : {e : Refusal} {l n : ℕ} {out : List ℕ} {r : Turn} → a.ended ≡ Err (e, l) → Puts n out (met_lines (Some (e, l))) out₀
       → r ≡ record { count = n; next = State.Finished false } → Begins r rows out s rows₀ out₀
   unfolding begin_turn
   begin-refused {e} {l} {n} {out} {r} g p z changes =
-      rw (le-ltb taken (length s) h, sym ended ∙ g) (rw (w, f) (does-final false (met_lines (Met.Refused e l)) (header_filled (header_of s fresh_cursor rows₀).rows rows₀) changes out₀ z p))
+      rw (le-ltb taken (length s) h, sym ended ∙ g) (rw (w, f) (does-final false (met_lines (Some (e, l))) (header_filled (header_of s fresh_cursor rows₀).rows rows₀) changes out₀ z p))
 
 pub var-listed : {a : ListAnswer} {changes : List ℕ} (s changes₀ : List ℕ) (p : Place) (v : Var) → a ≡ list_answer (list_of s p.cursor v.code changes₀)
     → changes ≡ list_filled (list_of s p.cursor v.code changes₀).rows changes₀
@@ -116,7 +114,7 @@ module _ (s rows changes₀ out₀ : List ℕ) (p : Place) where
   unfolding row_turn
   row-end h z e = rw (le-leb p.count p.row h) (does-final p.whole (met_lines p.met) rows changes₀ out₀ e z)
 
-  pub row-var : {x : Row} {q : Parent} {v : Var} {r : Turn} {changes : List ℕ} → p.row < p.count → x ≡ row_at rows p.row → x ≡ Row.Var q v
+  pub row-var : {x : Row} {q : Option RowNumber} {v : Var} {r : Turn} {changes : List ℕ} → p.row < p.count → x ≡ row_at rows p.row → x ≡ Row.Var q v
       → Lists r changes s changes₀ (next_row p) v → Does r rows changes out₀ out₀ (row_turn s (length out₀) rows changes₀ p)
   unfolding row_turn
   row-var h y z g = rw (lt-leb p.count p.row h, sym y ∙ z) (g rows out₀)

@@ -1,4 +1,7 @@
 -- Every line has room in the bytes that are lent: a name and a value of the input, two numbers, and four bytes. So the turns print all.
+use Rattle.command.specs.Refusals.{Ended}
+use Rattle.std.specs.Prelude.{Option, Some, None, Ok, Err}
+use Rattle.command.specs.declared.Time.{Time}
 use Prim.Native.Nat.{ℕ, zero, suc, ◌+◌, ◌^◌, ◌≤◌, ◌<◌}
 use mathlib.Core.Path.{◌≡◌, refl}
 use mathlib.Core.Bool.{false}
@@ -11,7 +14,6 @@ use Rattle.command.specs.Refusals.{number_of}
 use Rattle.command.specs.declared.Command.{Command}
 use Rattle.command.specs.declared.Refusal.{Refusal}
 use Rattle.header.specs.Header.{Outcome as Heading, Step, on, whole, off, move, follow, read_rows, nothing}
-use Rattle.header.specs.declared.Ended.{Ended as HeaderEnded}
 use Rattle.header.specs.declared.Header.{Header}
 use Rattle.rows.specs.declared.Row.{Row}
 use Rattle.parser.proofs.Ranged.{Ranged, command-ranged}
@@ -21,15 +23,13 @@ use Rattle.list_step.specs.Step.{Role, time, change, other, role_of}
 use Rattle.listing.specs.Listing.{Entry, entries, since_after, changes, stop_of, last_of, time_of, Outcome, rows_in, cut, list_in}
 use Rattle.listing.proofs.Complete.{rows_take}
 use Rattle.widen.specs.Widen.{missing, widened}
-use Rattle.listing.specs.declared.Ended.{Ended}
 use Rattle.change.specs.declared.Change.{Change}
 use Rattle.change.specs.declared.ChangeKind.{ChangeKind}
-use Rattle.change.specs.declared.Since.{Since}
 use Rattle.number.specs.Decimal.{decimal_of}
 use Rattle.number.proofs.Writing.{short}
 use Rattle.parser.specs.All.{Commands, command, stop, finish, followed, commands_on, commands}
 use Rattle.parser.specs.Next.{next_from, fresh as fresh_cursor}
-use Rattle.parser_part.specs.declared.Next.{Next}
+use Rattle.parser.specs.declared.Next.{Next}
 use Rattle.parser.proofs.Stated.{next-valid, refusal-line}
 use Rattle.text.specs.Texts.{part}
 use Rattle.text.specs.declared.Text.{Text}
@@ -38,7 +38,6 @@ use Rattle.token.specs.Read.{Valid}
 use Rattle.token.specs.declared.Cursor.{Cursor}
 use Rattle.list_job.specs.Whole.{most_changes, is_full, met_lines, met_then, end_lines, listed, var_lines, rows_lines, heading, headed_lines, list_lines, list_text, list_whole}
 use Rattle.list_job.specs.Turns.{lent, row_words, change_words, Roomy, Runs}
-use Rattle.list_job.specs.declared.Met.{Met}
 use Rattle.list_job.specs.declared.State.{State}
 use Rattle.list_job.proofs.Turning.{runnable}
 
@@ -110,17 +109,17 @@ wide_short v width h =
     simp (length-append, length-replicate, length-map)
     (by-test (leb width 1024) (λ f. let g : width ≤ 1024 = leb-true _ _ f in rw f (omega arith)) (λ f. rw f (omega arith)))
 
-abbrev SinceOk : Since → Type 0
-SinceOk Since.None = Unit {0}
-SinceOk (Since.Time t) = t.0 < 2 ^ 64
+abbrev SinceOk : Option Time → Type 0
+SinceOk None = Unit {0}
+SinceOk (Some t) = t.0 < 2 ^ 64
 
 abbrev ChangeOk : Change → Type 0
 ChangeOk (Change.Is since line kind v) = SinceOk since × (line ≤ 65537)
 ChangeOk Change.None = Unit {0}
 
-time-short : (t : Since) → SinceOk t → length (time_text t) ≤ 20
-time-short Since.None h = omega arith
-time-short (Since.Time t) h = short 19 t.0 (omega arith)
+time-short : (t : Option Time) → SinceOk t → length (time_text t) ≤ 20
+time-short None h = omega arith
+time-short (Some t) h = short 19 t.0 (omega arith)
 
 value-short : (width : ℕ) (k : ChangeKind) (v : List ℕ) → length v ≤ 65536 → length (value_text width k v) ≤ 65536
 value-short width ChangeKind.Scalar v h = wide_short v 1 h
@@ -142,9 +141,9 @@ module _ (s : List ℕ) (small : length s ≤ taken) where
   line_small : (d : Cursor) → Valid s d → d.line ≤ 65537
   line_small d v = omega (arith, v.counted, v.within)
 
-abbrev HeadEnd : HeaderEnded → Type 0
-HeadEnd HeaderEnded.Whole = Unit {0}
-HeadEnd (HeaderEnded.Refused e n) = n ≤ 65537
+abbrev HeadEnd : Ended → Type 0
+HeadEnd (Ok tt) = Unit {0}
+HeadEnd (Err (e, n)) = n ≤ 65537
 
 abbrev HeadOk : List ℕ → Heading → Type 0
 HeadOk s o = Valid s o.cursor × HeadEnd o.ended
@@ -173,7 +172,7 @@ take-ok zero xs h = tt
 take-ok (suc n) [] h = tt
 take-ok (suc n) (x ∷ xs) h = (h.0, take-ok n xs h.1)
 
-since-ok : (s : List ℕ) (c : Cursor) (t : Since) (k : Command) → SinceOk t → Ranged k → SinceOk (since_after t (role_of s c k))
+since-ok : (s : List ℕ) (c : Cursor) (t : Option Time) (k : Command) → SinceOk t → Ranged k → SinceOk (since_after t (role_of s c k))
 since-ok s c t₀ (Command.Comment t) h g = h
 since-ok s c t₀ (Command.Date t) h g = h
 since-ok s c t₀ (Command.Version t) h g = h
@@ -190,13 +189,13 @@ since-ok s c t₀ (Command.ChangeString i v) h g = h
 since-ok s c t₀ (Command.Begin x) h g = h
 since-ok s c t₀ (Command.End x) h g = h
 
-entries-ok : (i : IdCode) (c : Cursor) (t : Since) (line : ℕ) (x : Role) (more : List Entry) → SinceOk t → line ≤ 65537 → AllOk (rows_in more)
+entries-ok : (i : IdCode) (c : Cursor) (t : Option Time) (line : ℕ) (x : Role) (more : List Entry) → SinceOk t → line ≤ 65537 → AllOk (rows_in more)
     → AllOk (rows_in (entries i c t line x ++ more))
 entries-ok i c t line (time u) more h g m = m
 entries-ok i c t line (change j k v) more h g m = by-test (eqb j.0 i.0) (λ f. rw f ((h, g), m)) (λ f. rw f m)
 entries-ok i c t line other more h g m = m
 
-changes-ok : (s : List ℕ) → length s ≤ taken → (i : IdCode) (cs : Commands) → Sound s cs → (c : Cursor) (t : Since) → SinceOk t → AllOk (rows_in (changes s i c t cs))
+changes-ok : (s : List ℕ) → length s ≤ taken → (i : IdCode) (cs : Commands) → Sound s cs → (c : Cursor) (t : Option Time) → SinceOk t → AllOk (rows_in (changes s i c t cs))
 unfolding changes
 changes-ok s small i (command k d more) o c t h =
     entries-ok i c t d.line (role_of s c k) (changes s i d (since_after t (role_of s c k)) more) h (line_small s small d o.0)
@@ -205,8 +204,8 @@ changes-ok s small i (stop e n d) o c t h = tt
 changes-ok s small i (finish d) o c t h = tt
 
 abbrev EndOk : Ended → Type 0
-EndOk Ended.Whole = Unit {0}
-EndOk (Ended.Refused e n) = is_full e ≡ false → n ≤ 65537
+EndOk (Ok tt) = Unit {0}
+EndOk (Err (e, n)) = is_full e ≡ false → n ≤ 65537
 
 stop-ok : (s : List ℕ) → length s ≤ taken → (cs : Commands) → Sound s cs → EndOk (stop_of cs)
 unfolding stop_of
@@ -217,7 +216,7 @@ stop-ok s small (finish d) o = tt
 abbrev OutOk : Outcome → Type 0
 OutOk o = AllOk o.rows × EndOk o.ended
 
-cut_ok : (made more : List Entry) (e : Ended) (d : Cursor) (u : Since) → AllOk (rows_in made) → EndOk e → OutOk (cut made more e d u)
+cut_ok : (made more : List Entry) (e : Ended) (d : Cursor) (u : Option Time) → AllOk (rows_in made) → EndOk e → OutOk (cut made more e d u)
 cut_ok made [] e d u h g = (h, g)
 cut_ok made (x ∷ more) e d u h g = (h, λ z. let w : ◌≡◌ {A = ℕ} 0 1 = cc in absurd (omega arith))
 
@@ -225,27 +224,27 @@ listed_ok : (s : List ℕ) → length s ≤ taken → (c : Cursor) → Valid s c
 unfolding listed list_in
 listed_ok s small c v i =
     let o = sound s c v in
-    let all : List Entry = changes s i c Since.None (commands s c) in
-    cut_ok (take most_changes all) (drop most_changes all) (stop_of (commands s c)) (last_of (commands s c)) (time_of s c Since.None (commands s c))
-    (rw (rows_take most_changes all) (take-ok most_changes (rows_in all) (changes-ok s small i (commands s c) o c Since.None tt)))
+    let all : List Entry = changes s i c None (commands s c) in
+    cut_ok (take most_changes all) (drop most_changes all) (stop_of (commands s c)) (last_of (commands s c)) (time_of s c None (commands s c))
+    (rw (rows_take most_changes all) (take-ok most_changes (rows_in all) (changes-ok s small i (commands s c) o c None tt)))
     (stop-ok s small (commands s c) o)
 
 -- ---- all lines
-abbrev MetOk : Met → Type 0
-MetOk Met.Nothing = Unit {0}
-MetOk (Met.Refused e n) = n ≤ 65537
+abbrev MetOk : Option (Refusal × ℕ) → Type 0
+MetOk None = Unit {0}
+MetOk (Some (e, n)) = n ≤ 65537
 
-then_ok : (m : Met) (x : Ended) → MetOk m → EndOk x → MetOk (met_then m x)
-then_ok m Ended.Whole h g = h
-then_ok m (Ended.Refused e n) h g = by-test (is_full e) (λ f. rw f h) (λ f. rw f (g f))
+then_ok : (m : Option (Refusal × ℕ)) (x : Ended) → MetOk m → EndOk x → MetOk (met_then m x)
+then_ok m (Ok tt) h g = h
+then_ok m (Err (e, n)) h g = by-test (is_full e) (λ f. rw f h) (λ f. rw f (g f))
 
-met-room : (m : Met) → MetOk m → Roomy lent (met_lines m)
-met-room Met.Nothing h = tt
-met-room (Met.Refused e n) h = (refused-room e n h, tt)
+met-room : (m : Option (Refusal × ℕ)) → MetOk m → Roomy lent (met_lines m)
+met-room None h = tt
+met-room (Some (e, n)) h = (refused-room e n h, tt)
 
 end-room : (name : List ℕ) (x : Ended) → length name ≤ 65536 → Roomy lent (end_lines name x)
-end-room name Ended.Whole h = tt
-end-room name (Ended.Refused e n) h = by-test (is_full e) (λ f. rw f (full-room name h, tt)) (λ f. rw f tt)
+end-room name (Ok tt) h = tt
+end-room name (Err (e, n)) h = by-test (is_full e) (λ f. rw f (full-room name h, tt)) (λ f. rw f tt)
 
 roomy-join : (a b : List (List ℕ)) → Roomy lent a → Roomy lent b → Roomy lent (a ++ b)
 roomy-join [] b h g = g
@@ -255,7 +254,7 @@ lines-room : (s : List ℕ) → length s ≤ taken → (name : List ℕ) (width 
 lines-room s small name width [] h o = tt
 lines-room s small name width (x ∷ xs) h o = (change-room s small name width x h o.0, lines-room s small name width xs h o.1)
 
-rows-room : (s : List ℕ) → length s ≤ taken → (c : Cursor) → Valid s c → (rs : List Row) (m : Met) → MetOk m → Roomy lent (rows_lines s c rs m)
+rows-room : (s : List ℕ) → length s ≤ taken → (c : Cursor) → Valid s c → (rs : List Row) (m : Option (Refusal × ℕ)) → MetOk m → Roomy lent (rows_lines s c rs m)
 unfolding rows_lines
 rows-room s small c v [] m h = met-room m h
 rows-room s small c v (Row.Var p x ∷ rs) m h =
@@ -269,9 +268,9 @@ rows-room s small c v (Row.Scope p k t ∷ rs) m h = rows-room s small c v rs m 
 rows-room s small c v (Row.Comment p t ∷ rs) m h = rows-room s small c v rs m h
 rows-room s small c v (Row.None ∷ rs) m h = rows-room s small c v rs m h
 
-headed-room : (s : List ℕ) → length s ≤ taken → (rs : List Row) (c : Cursor) (x : HeaderEnded) → Valid s c → HeadEnd x → Roomy lent (headed_lines s rs c x)
-headed-room s small rs c HeaderEnded.Whole v h = rows-room s small c v rs Met.Nothing tt
-headed-room s small rs c (HeaderEnded.Refused e n) v h = (refused-room e n h, tt)
+headed-room : (s : List ℕ) → length s ≤ taken → (rs : List Row) (c : Cursor) (x : Ended) → Valid s c → HeadEnd x → Roomy lent (headed_lines s rs c x)
+headed-room s small rs c (Ok tt) v h = rows-room s small c v rs None tt
+headed-room s small rs c (Err (e, n)) v h = (refused-room e n h, tt)
 
 fresh-valid : (s : List ℕ) → length s ≤ taken → Valid s fresh_cursor
 fresh-valid s small = record { short = omega arith; within = omega arith; started = omega arith; counted = omega arith }

@@ -1,5 +1,8 @@
 -- The turns print the listing: the lines of a turn, with what is still to come after it, are what was to come before it; and the
 -- outcome stays the same.
+use Rattle.command.specs.Refusals.{Ended}
+use Rattle.std.specs.Prelude.{Option, Some, None, Ok, Err}
+use Rattle.command.specs.declared.Refusal.{Refusal}
 use Prim.Native.Nat.{ℕ, zero, suc, ◌+◌, ◌-◌, ◌/◌, ◌≤◌, ◌<◌}
 use mathlib.Core.Path.{◌≡◌, refl, sym, ap, subst, ◌∙◌}
 use mathlib.Core.Bool.{Bool, true, false, cond, ◌&&◌}
@@ -13,7 +16,6 @@ use lib.ListN.{length, get_or, drop}
 use lib.Seq.{drop-cons}
 use Rattle.header.specs.Header.{header_of}
 use Rattle.rows.specs.Rows.{row_at, rows_from, filled as header_filled}
-use Rattle.header.specs.declared.Ended.{Ended as HeaderEnded}
 use Rattle.rows.specs.declared.Row.{Row}
 use Rattle.header.proofs.Good.{header-room}
 use Rattle.header.proofs.Kept.{header-back}
@@ -22,8 +24,6 @@ use Rattle.emit.specs.Put.{concat}
 use Rattle.lines.specs.Lines.{taken, header_rows, change_line, lines_from, fitting}
 use Rattle.listing.specs.Listing.{Outcome, list_of}
 use Rattle.change.specs.Rows.{filled as list_filled}
-use Rattle.change.specs.declared.Since.{Since}
-use Rattle.listing.specs.declared.Ended.{Ended}
 use Rattle.change.specs.declared.Change.{Change}
 use Rattle.listing.proofs.Complete.{rows_fit}
 use Rattle.change.proofs.Table.{row-at, filled-length}
@@ -33,7 +33,6 @@ use Rattle.text.proofs.Lists.{by-test}
 use Rattle.token.specs.declared.Cursor.{Cursor}
 use Rattle.list_job.specs.Whole.{most_changes, is_full, met_lines, end_lines, long_lines, listed, rows_lines, heading, headed_lines, list_lines, list_text, is_whole, rows_whole, headed_whole, list_whole}
 use Rattle.list_job.specs.Turns.{Turned, fit, final, opened, begin_turn, next_row, met_row, row_then, row_turn, ahead, passed, some, lines_turn, turn_of, Runs, ends, turn, rows_ahead, rest, whole_ahead, outcome, left, row_words, change_words, is_finished, Does, Tables, Nearer, Ends, Roomy}
-use Rattle.list_job.specs.declared.Met.{Met}
 use Rattle.list_job.specs.declared.Place.{Place}
 use Rattle.list_job.specs.declared.Printing.{Printing}
 use Rattle.list_job.specs.declared.State.{State}
@@ -56,17 +55,17 @@ fit_none : (room : ℕ) → fit room [] ≡ []
 unfolding fitting
 fit_none room = refl
 
-fit-met : (room : ℕ) (m : Met) → Roomy room (met_lines m) → fit room (met_lines m) ≡ met_lines m
-fit-met room Met.Nothing h = fit_none room
-fit-met room (Met.Refused e n) h = fit-one room _ h
+fit-met : (room : ℕ) (m : Option (Refusal × ℕ)) → Roomy room (met_lines m) → fit room (met_lines m) ≡ met_lines m
+fit-met room None h = fit_none room
+fit-met room (Some (e, n)) h = fit-one room _ h
 
 fit-by : (room : ℕ) (t : Bool) (l : List ℕ) → Roomy room (cond t (l ∷ []) []) → fit room (cond t (l ∷ []) []) ≡ cond t (l ∷ []) []
 fit-by room true l h = fit-one room l h
 fit-by room false l h = fit_none room
 
 fit-end : (room : ℕ) (name : List ℕ) (e : Ended) → Roomy room (end_lines name e) → fit room (end_lines name e) ≡ end_lines name e
-fit-end room name Ended.Whole h = fit_none room
-fit-end room name (Ended.Refused e n) h = fit-by room (is_full e) _ h
+fit-end room name (Ok tt) h = fit_none room
+fit-end room name (Err (e, n)) h = fit-by room (is_full e) _ h
 
 -- the lines that have room, and the others
 split : (room : ℕ) (ls : List (List ℕ)) → fit room ls ++ drop (length (fit room ls)) ls ≡ ls
@@ -136,16 +135,16 @@ all_whole false = refl
 module _ (s : List ℕ) (room : ℕ) (rows changes : List ℕ) (sized : length changes ≡ change_words) where
   -- the header
   module _ (e : length rows ≡ row_words) where
-    begin-by : (x : HeaderEnded) → Roomy room (headed_lines s (heading s).rows (heading s).cursor x)
+    begin-by : (x : Ended) → Roomy room (headed_lines s (heading s).rows (heading s).cursor x)
         → let t : Turned = opened room rows changes (heading s) x in
         (t.lines ++ rest s t.rows t.changes t.next ≡ headed_lines s (heading s).rows (heading s).cursor x)
         × (outcome s t.rows t.next ≡ headed_whole s (heading s).rows (heading s).cursor x)
-    begin-by HeaderEnded.Whole h =
+    begin-by (Ok tt) h =
         let b = heading-is s rows e in
         let z : length (heading s).rows - 0 ≡ length (heading s).rows = omega arith in
         let back : rows_from (header_filled (heading s).rows rows) 0 (length (heading s).rows) ≡ (heading s).rows = rw b at (header-back s fresh_cursor rows) in
         (rw (z, back), rw (z, back))
-    begin-by (HeaderEnded.Refused r n) h = (rw (fit-met room (Met.Refused r n) h), refl)
+    begin-by (Err (r, n)) h = (rw (fit-met room (Some (r, n)) h), refl)
 
     begin-goes : Roomy room (list_lines s) → Goes s rows changes State.Begin (begin_turn s room rows changes)
     unfolding begin_turn list_lines list_whole
@@ -238,11 +237,11 @@ module _ (s : List ℕ) (room : ℕ) (rows changes : List ℕ) (sized : length c
   over : (w : Bool) (ls : List (List ℕ)) (table : List ℕ) (st : State) → 0 < left st → Nearer st (final w ls table changes)
   over w ls table st h = record { tables = record { head = tt; list = sized }; fewer = h }
 
-  near-header : length rows ≡ row_words → (x : HeaderEnded) → Nearer State.Begin (opened room rows changes (header_of s fresh_cursor rows) x)
-  near-header e HeaderEnded.Whole =
+  near-header : length rows ≡ row_words → (x : Ended) → Nearer State.Begin (opened room rows changes (header_of s fresh_cursor rows) x)
+  near-header e (Ok tt) =
       let few : length (header_of s fresh_cursor rows).rows ≤ header_rows = omega (arith, e, header-room s fresh_cursor rows) in
       record { tables = record { head = tt; list = sized }; fewer = omega arith }
-  near-header e (HeaderEnded.Refused r n) = over _ _ _ State.Begin (omega arith)
+  near-header e (Err (r, n)) = over _ _ _ State.Begin (omega arith)
 
   near-begin : length rows ≡ row_words → Nearer State.Begin (begin_turn s room rows changes)
   unfolding begin_turn
@@ -254,7 +253,7 @@ module _ (s : List ℕ) (room : ℕ) (rows changes : List ℕ) (sized : length c
   near-one : (p : Place) → p.row < p.count → (r : Row) → Nearer (State.Row p) (row_then s rows changes (next_row p) r)
   near-one p h (Row.Var q v) =
       let o : Outcome = list_of s p.cursor v.code changes in
-      let few : length o.rows ≤ most_changes = subst (λ (n : ℕ). length o.rows ≤ n / 6) sized (rows_fit s p.cursor Since.None v.code (length changes / 6)) in
+      let few : length o.rows ≤ most_changes = subst (λ (n : ℕ). length o.rows ≤ n / 6) sized (rows_fit s p.cursor None v.code (length changes / 6)) in
       record { tables = record { head = tt; list = filled-length o.rows changes (omega arith) ∙ sized }; fewer = omega arith }
   near-one p h (Row.Scope q k t) = record { tables = record { head = tt; list = sized }; fewer = omega arith }
   near-one p h (Row.Comment q t) = record { tables = record { head = tt; list = sized }; fewer = omega arith }

@@ -1,21 +1,18 @@
 -- A turn: the lines that it puts, the state and the tables then; and what is still to be printed from a state on.
-use Rattle.std.specs.Prelude.{ℕ, ◌+◌, ◌-◌, ◌*◌, ◌≤◌, ◌<◌, ◌≡◌, Bool, true, false, cond, ◌&&◌, List, [], ◌∷◌, ◌++◌, eqb, ltb, leb, length}
+use Rattle.command.specs.Refusals.{Ended}
+use Rattle.std.specs.Prelude.{ℕ, ◌+◌, ◌-◌, ◌*◌, ◌≤◌, ◌<◌, ◌≡◌, Bool, true, false, cond, ◌&&◌, List, [], ◌∷◌, ◌++◌, eqb, ltb, leb, length, Option, Some, None, Ok, Err}
 use Rattle.header.specs.Header.{Outcome as Heading, header_of}
 use Rattle.rows.specs.Rows.{row_at, rows_from, filled as header_filled}
-use Rattle.header.specs.declared.Ended.{Ended as HeaderEnded}
 use Rattle.rows.specs.declared.Row.{Row}
 use Rattle.emit.specs.Put.{concat}
 use Rattle.lines.specs.Lines.{taken, header_rows, lines_from, fitting, filled}
 use Rattle.change.specs.Rows.{filled as list_filled}
 use Rattle.listing.specs.Listing.{Outcome, list_of}
-use Rattle.listing.specs.declared.Ended.{Ended}
 use Rattle.scope.specs.declared.Var.{Var}
 use Rattle.text.specs.Texts.{part}
-use Rattle.text.specs.declared.Placed.{Placed}
 use Rattle.token.specs.declared.Cursor.{Cursor}
 use Rattle.parser.specs.Next.{fresh as fresh_cursor}
 use Rattle.list_job.specs.Whole.{most_changes, met_lines, met_then, end_lines, long_lines, rows_lines, list_lines, is_whole, rows_whole, list_whole}
-use Rattle.list_job.specs.declared.Met.{Met}
 use Rattle.list_job.specs.declared.Place.{Place}
 use Rattle.list_job.specs.declared.Printing.{Printing}
 use Rattle.list_job.specs.declared.State.{State}
@@ -32,9 +29,9 @@ pub record Turned : Type 0 where
 abbrev pub fit : ℕ → List (List ℕ) → List (List ℕ)
 fit room ls = fitting room ls
 
-abbrev pub count_of : Placed → ℕ
-count_of (Placed.Count n) = n
-count_of Placed.NoRoom = 0
+abbrev pub count_of : Option ℕ → ℕ
+count_of (Some n) = n
+count_of None = 0
 
 -- a call puts those of these lines that have room at the output's start, and answers their bytes
 abbrev pub Puts : ℕ → List ℕ → List (List ℕ) → List ℕ → Type 0
@@ -55,11 +52,11 @@ abbrev pub row_on : Place → List ℕ → List ℕ → Turned
 row_on p rows changes = record { lines = []; next = State.Row p; rows = rows; changes = changes }
 
 abbrev pub first_row : Cursor → ℕ → Place
-first_row c n = record { cursor = c; count = n; row = 0; met = Met.Nothing; whole = true }
+first_row c n = record { cursor = c; count = n; row = 0; met = None; whole = true }
 
-abbrev pub opened : ℕ → List ℕ → List ℕ → Heading → HeaderEnded → Turned
-opened room rows changes o HeaderEnded.Whole = row_on (first_row o.cursor (length o.rows)) (header_filled o.rows rows) changes
-opened room rows changes o (HeaderEnded.Refused e n) = final false (fit room (met_lines (Met.Refused e n))) (header_filled o.rows rows) changes
+abbrev pub opened : ℕ → List ℕ → List ℕ → Heading → Ended → Turned
+opened room rows changes o (Ok tt) = row_on (first_row o.cursor (length o.rows)) (header_filled o.rows rows) changes
+opened room rows changes o (Err (e, n)) = final false (fit room (met_lines (Some (e, n)))) (header_filled o.rows rows) changes
 
 unfoldable pub begin_turn : List ℕ → ℕ → List ℕ → List ℕ → Turned
 begin_turn s room rows changes =

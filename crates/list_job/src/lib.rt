@@ -10,7 +10,7 @@ use command::Refusal;
 use listing::Ended;
 use rows::Row;
 use scope::Var;
-use text::{Placed, Text};
+use text::Text;
 use token::Cursor;
 
 // The most changes of a variable that are listed.
@@ -23,20 +23,13 @@ pub const CHANGE_WORDS: usize = CHANGES * listing::WORDS;
 
 pub const ROOM: usize = 131136;
 
-// A refusal of reading, with its line; the listings of one dump meet the same one.
-#[derive(Clone, Copy)]
-pub enum Met {
-    Nothing,
-    Refused(Refusal, u64),
-}
-
 // Where the header ended, how many rows it has, the next of them, what was met so far, and whether all listings so far ended whole.
 #[derive(Clone, Copy)]
 pub struct Place {
     pub cursor: Cursor,
     pub count: usize,
     pub row: usize,
-    pub met: Met,
+    pub met: Option<(Refusal, u64)>,
     pub whole: bool,
 }
 
@@ -119,17 +112,17 @@ fn turn_begin(input: &[u8], rows: &mut [u64], out: &mut [u8]) -> Turn
     let cursor = h.cursor;
     let count = h.count;
     match ended {
-        header::Ended::Whole => Turn {
+        Ok(()) => Turn {
             count: 0,
             next: State::Row(Place {
                 cursor,
                 count,
                 row: 0,
-                met: Met::Nothing,
+                met: None,
                 whole: true,
             }),
         },
-        header::Ended::Refused(e, line) => last(put_met(Met::Refused(e, line), out), false),
+        Err((e, line)) => last(put_met(Some((e, line)), out), false),
     }
 }
 
@@ -272,8 +265,8 @@ fn whole_then(whole: bool, ended: Ended) -> bool
     ensures { result ≡ is_whole ended && whole }
 {
     match ended {
-        Ended::Whole => whole,
-        Ended::Refused(_, _) => false,
+        Ok(()) => whole,
+        Err((_, _)) => false,
     }
 }
 
@@ -285,16 +278,16 @@ fn is_full(e: Refusal) -> bool
 }
 
 // The refusal met after a listing that ended so: a full one met none.
-fn met_then(met: Met, ended: Ended) -> Met
+fn met_then(met: Option<(Refusal, u64)>, ended: Ended) -> Option<(Refusal, u64)>
     ensures { result ≡ met_then met ended }
 {
     match ended {
-        Ended::Whole => met,
-        Ended::Refused(e, line) => {
+        Ok(()) => met,
+        Err((e, line)) => {
             if is_full(e) {
                 return met;
             }
-            Met::Refused(e, line)
+            Some((e, line))
         }
     }
 }
@@ -306,12 +299,12 @@ fn put_long(out: &mut [u8]) -> usize
 }
 
 // `refused NUMBER at LINE`, if a refusal was met.
-fn put_met(met: Met, out: &mut [u8]) -> usize
+fn put_met(met: Option<(Refusal, u64)>, out: &mut [u8]) -> usize
     ensures { Puts result out.new (met_lines met) out.old }
 {
     match met {
-        Met::Nothing => 0,
-        Met::Refused(e, line) => counted(lines::put_refused(e.number(), line, out)),
+        None => 0,
+        Some((e, line)) => counted(lines::put_refused(e.number(), line, out)),
     }
 }
 
@@ -320,8 +313,8 @@ fn put_end(name: &[u8], ended: Ended, out: &mut [u8]) -> usize
     ensures { Puts result out.new (end_lines name.now ended) out.old }
 {
     match ended {
-        Ended::Whole => 0,
-        Ended::Refused(e, _) => {
+        Ok(()) => 0,
+        Err((e, _)) => {
             if is_full(e) {
                 return counted(lines::put_full(name, out));
             }
@@ -330,11 +323,11 @@ fn put_end(name: &[u8], ended: Ended, out: &mut [u8]) -> usize
     }
 }
 
-fn counted(p: Placed) -> usize
+fn counted(p: Option<usize>) -> usize
     ensures { result ≡ count_of p }
 {
     match p {
-        Placed::Count(n) => n,
-        Placed::NoRoom => 0,
+        Some(n) => n,
+        None => 0,
     }
 }

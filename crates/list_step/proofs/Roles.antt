@@ -7,8 +7,7 @@ use Rattle.command.specs.declared.Command.{Command}
 use Rattle.command.specs.declared.Refusal.{Refusal}
 use Rattle.idcode.specs.declared.IdCode.{IdCode}
 use Rattle.parser.specs.Next.{is_good, next_from}
-use Rattle.parser_part.specs.Plan.{refused}
-use Rattle.parser_part.specs.declared.Next.{Next}
+use Rattle.parser.specs.declared.Next.{Next}
 use Rattle.parser.proofs.Ahead.{valid-good, command-past}
 use Rattle.parser.proofs.Stated.{next-bad}
 use Rattle.token.specs.Read.{Valid}
@@ -47,5 +46,5 @@ saw s i c l r e q = subst (Saw s i c) (sym e ∙ q) (go (next_from s c) refl)
     go (Next.Done d) n = n
 
 -- from a bad cursor nothing is read
-pub bad-next : (s : List ℕ) (c : Cursor) → is_good s c ≡ false → next_from s c ≡ refused Refusal.BadPlace c
+pub bad-next : (s : List ℕ) (c : Cursor) → is_good s c ≡ false → next_from s c ≡ Next.Refused Refusal.BadPlace c.line c
 bad-next s c e = next-bad s c (λ v. true≢false (sym (valid-good s c v) ∙ e))

@@ -4,7 +4,7 @@ use Rattle.change.specs.declared.ChangeKind.{ChangeKind}
 use Rattle.command.specs.declared.Command.{Command}
 use Rattle.command.specs.declared.Time.{Time}
 use Rattle.idcode.specs.declared.IdCode.{IdCode}
-use Rattle.parser_part.specs.declared.Next.{Next}
+use Rattle.parser.specs.declared.Next.{Next}
 use Rattle.text.specs.declared.Text.{Text}
 use Rattle.token.specs.Read.{skipped}
 use Rattle.token.specs.declared.Cursor.{Cursor}

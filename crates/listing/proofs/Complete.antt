@@ -1,5 +1,8 @@
 -- What a listing holds: with enough room every change of the code up to the first refusal or the end, once, in file order, with the last
 -- timestamp read before it, the given one until one is read; else as many as there is room for.
+use Rattle.command.specs.Refusals.{Ended}
+use Rattle.std.specs.Prelude.{Option, Ok, Err}
+use Rattle.command.specs.declared.Time.{Time}
 use Prim.Native.Nat.{ℕ, zero, suc, ◌+◌, ◌≤◌}
 use mathlib.Core.Path.{◌≡◌, refl, sym, ap, ◌∙◌}
 use mathlib.Core.List.{List, [], ◌∷◌, ◌++◌, append_assoc, append-nil}
@@ -10,20 +13,18 @@ use lib.ListN.{length, get_or, take, drop, length-append, length-map, length-tak
 use lib.Seq.{take_at, take_all, drop_at, get_or_at}
 use Rattle.change.specs.declared.Change.{Change}
 use Rattle.change.specs.declared.ChangeKind.{ChangeKind}
-use Rattle.change.specs.declared.Since.{Since}
 use Rattle.command.specs.declared.Command.{Command}
 use Rattle.command.specs.declared.Refusal.{Refusal}
 use Rattle.idcode.specs.declared.IdCode.{IdCode}
 use Rattle.parser.specs.All.{commands}
 use Rattle.parser.specs.Next.{next_from}
-use Rattle.parser_part.specs.declared.Next.{Next}
+use Rattle.parser.specs.declared.Next.{Next}
 use Rattle.text.proofs.Lists.{by-test}
 use Rattle.text.specs.declared.Text.{Text}
 use Rattle.token.specs.Read.{bit}
 use Rattle.token.specs.declared.Cursor.{Cursor}
 use Rattle.list_step.specs.Step.{Role, time, change, other, role_of}
 use Rattle.listing.specs.Listing.{Entry, entries, since_after, stop_of, last_of, time_of, rows_in, cut, list_in}
-use Rattle.listing.specs.declared.Ended.{Ended}
 use Rattle.listing.proofs.Listed.{ahead, ahead-first, ahead-refused, ahead-done, stop_step, last_step, time-first, StopsAt, stop-refused, stop-done, rows_join}
 
 pub rows_take : (n : ℕ) (es : List Entry) → rows_in (take n es) ≡ take n (rows_in es)
@@ -32,7 +33,7 @@ rows_take (suc n) [] = refl
 rows_take (suc n) (e ∷ es) = ap (λ (l : List Change). e.row ∷ l) (rows_take n es)
 
 -- ---- by room
-module _ (s : List ℕ) (c : Cursor) (t : Since) (i : IdCode) (room : ℕ) where
+module _ (s : List ℕ) (c : Cursor) (t : Option Time) (i : IdCode) (room : ℕ) where
   abbrev all : List Entry
   all = ahead s i c t
 
@@ -69,17 +70,17 @@ abbrev pub count_of : IdCode → List Role → ℕ
 count_of i [] = 0
 count_of i (x ∷ xs) = is_of i x + count_of i xs
 
-abbrev pub last_time : Since → List Role → Since
+abbrev pub last_time : Option Time → List Role → Option Time
 last_time t [] = t
 last_time t (x ∷ xs) = last_time (since_after t x) xs
 
-entries-count : (i : IdCode) (c : Cursor) (t : Since) (n : ℕ) (x : Role) → length (entries i c t n x) ≡ is_of i x
+entries-count : (i : IdCode) (c : Cursor) (t : Option Time) (n : ℕ) (x : Role) → length (entries i c t n x) ≡ is_of i x
 entries-count i c t n (time u) = refl
 entries-count i c t n (change j k v) = by-test (eqb j.0 i.0) (λ e. rw e) (λ e. rw e)
 entries-count i c t n other = refl
 
 -- the entries of the commands on the way, and those ahead of its end
-way-ahead : (s : List ℕ) (i : IdCode) (c e : Cursor) (t : Since) (xs : List Role) → Way s c xs e
+way-ahead : (s : List ℕ) (i : IdCode) (c e : Cursor) (t : Option Time) (xs : List Role) → Way s c xs e
     → (made : List Entry) × (ahead s i c t ≡ made ++ ahead s i e (last_time t xs)) × (length made ≡ count_of i xs)
 way-ahead s i c e t [] w = ([], ap (λ (x : Cursor). ahead s i x t) w, refl)
 way-ahead s i c e t (x ∷ xs) w =
@@ -93,7 +94,7 @@ way-ahead s i c e t (x ∷ xs) w =
     )
 
 -- reading stops as it does from the way's end
-way-stop : (s : List ℕ) (c e : Cursor) (t : Since) (xs : List Role) → Way s c xs e
+way-stop : (s : List ℕ) (c e : Cursor) (t : Option Time) (xs : List Role) → Way s c xs e
     → (stop_of (commands s c) ≡ stop_of (commands s e))
     × (last_of (commands s c) ≡ last_of (commands s e))
     × (time_of s c t (commands s c) ≡ time_of s e (last_time t xs) (commands s e))
@@ -105,8 +106,8 @@ way-stop s c e t (x ∷ xs) w =
     let first : time_of s c t (commands s c) ≡ time_of s d (since_after t x) (commands s d) = rw w.3 at (time-first s c d w.0 w.2 t) in
     (stop_step s c d w.0 w.2 ∙ r.0, last_step s c d w.0 w.2 ∙ r.1, first ∙ r.2)
 
-module _ (s : List ℕ) (i : IdCode) (c d : Cursor) (t : Since) (xs : List Role) (w : Way s c xs d) where
-  abbrev since : Since
+module _ (s : List ℕ) (i : IdCode) (c d : Cursor) (t : Option Time) (xs : List Role) (w : Way s c xs d) where
+  abbrev since : Option Time
   since = last_time t xs
 
   -- the next command is a change of the code: its row stands after those of the changes before it, with the last time among them
@@ -133,7 +134,7 @@ module _ (s : List ℕ) (i : IdCode) (c d : Cursor) (t : Since) (xs : List Role)
         list_in s c t i (count_of i xs)
         ≡ record {
           rows = take (count_of i xs) (rows_in (ahead s i c t));
-          ended = Ended.Refused Refusal.ListFull d.line;
+          ended = Err (Refusal.ListFull, d.line);
           cursor = d;
           since = since;
         }
@@ -161,8 +162,8 @@ module _ (s : List ℕ) (i : IdCode) (c d : Cursor) (t : Since) (xs : List Role)
         let z = way-stop s c d t xs w in
         rw (complete s c t i room (omega arith)) (m ∙ n, z.0 ∙ x.0, z.1 ∙ x.1, z.2 ∙ x.2)
 
-    pub ends-refused : (e : Refusal) (n : ℕ) (f : Cursor) → next_from s d ≡ Next.Refused e n f → Ends (Ended.Refused e n) f
+    pub ends-refused : (e : Refusal) (n : ℕ) (f : Cursor) → next_from s d ≡ Next.Refused e n f → Ends (Err (e, n)) f
     ends-refused e n f q = ends _ _ (ahead-refused s i d f since e n q) (stop-refused s d f since e n q)
 
-    pub ends-whole : (f : Cursor) → next_from s d ≡ Next.Done f → Ends Ended.Whole f
+    pub ends-whole : (f : Cursor) → next_from s d ≡ Next.Done f → Ends (Ok tt) f
     ends-whole f q = ends _ _ (ahead-done s i d f since q) (stop-done s d f since q)

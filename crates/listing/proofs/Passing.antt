@@ -1,4 +1,6 @@
 -- A run over the usual commands that are no changes of the code, on its way; and the timestamp that stands at a place.
+use Rattle.std.specs.Prelude.{Option, Some, None}
+use Rattle.command.specs.declared.Time.{Time}
 use Prim.Native.Nat.{ℕ, ◌+◌, ◌*◌, ◌≤◌, ◌<◌}
 use mathlib.Core.Path.{◌≡◌, refl, sym, ◌∙◌}
 use mathlib.Core.Bool.{false}
@@ -8,30 +10,28 @@ use borrow.Author.Tests.{ne_eqb}
 use lib.ListN.{length, get_or}
 use Rattle.fast.specs.Fast.{Reads, ReadsScalar}
 use Rattle.command.specs.declared.Command.{Command}
-use Rattle.command.specs.declared.Open.{Open}
 use Rattle.idcode.specs.declared.IdCode.{IdCode}
 use Rattle.parser.specs.Next.{next_from}
-use Rattle.parser_part.specs.declared.Next.{Next}
+use Rattle.parser.specs.declared.Next.{Next}
 use Rattle.token.specs.Flat.{word_read}
 use Rattle.token.specs.Read.{Valid}
 use Rattle.token.specs.declared.Cursor.{Cursor}
 use Rattle.listing.specs.Listing.{Passes, Held}
 use Rattle.listing.specs.declared.Stand.{Stand}
 use Rattle.list_step.specs.declared.Seen.{Seen}
-use Rattle.change.specs.declared.Since.{Since}
 use Rattle.list_step.proofs.Roles.{Read}
 use Rattle.listing.proofs.Listed.{passes-start, passes-read, passes_on}
 use Rattle.text.specs.Texts.{limit}
 
 -- ---- from c, where t was the last time, to d; the last time then stands at `at`, and there is room for n short commands
-pub record Running (s : List ℕ) (i : IdCode) (c : Cursor) (t : Since) (d : Cursor) (at n : ℕ) : Type 0 where
-  pub since : Since
+pub record Running (s : List ℕ) (i : IdCode) (c : Cursor) (t : Option Time) (d : Cursor) (at n : ℕ) : Type 0 where
+  pub since : Option Time
   pub passes : Passes s i c t d since
   pub held : Held s t at since
   pub long : at < length s → at + 34 ≤ length s
   pub room : d.place + 34 * n ≤ length s
 
-module _ (s : List ℕ) (i : IdCode) (c : Cursor) (t : Since) where
+module _ (s : List ℕ) (i : IdCode) (c : Cursor) (t : Option Time) where
   pub running-start : (n : ℕ) → Valid s c → c.place + 34 * n ≤ length s → Running s i c t c (length s) n
   running-start n v h =
       record {
@@ -47,7 +47,7 @@ module _ (s : List ℕ) (i : IdCode) (c : Cursor) (t : Since) where
     pub running-asks : (length s ≤ limit) × (at < length s → at + 34 ≤ length s)
     running-asks = (r.passes.valid.short, r.long)
 
-    pub running-ends : (x : Stand) → (x.cursor ≡ d) × ((u : Since) → Held s t at u → x.since ≡ u) → Passes s i c t x.cursor x.since
+    pub running-ends : (x : Stand) → (x.cursor ≡ d) × ((u : Option Time) → Held s t at u → x.since ≡ u) → Passes s i c t x.cursor x.since
     running-ends x h = rw (h.0, h.1 r.since r.held) r.passes
 
   -- a hit: a time, or another code's scalar
@@ -64,7 +64,7 @@ module _ (s : List ℕ) (i : IdCode) (c : Cursor) (t : Since) where
         let h : Read s i d next (Seen.Time (record { 0 = v })) =
         record { command = _; next = k.reads d r.passes.valid refl; tells = refl } in
         record {
-          since = Since.Time (record { 0 = v });
+          since = Some (record { 0 = v });
           passes = passes_on s i c d next t r.since _ r.passes (passes-read s i d next r.since _ h refl);
           held = (λ (x : length s ≤ d.place). absurd (omega (arith, r.room)), λ _. (v, e, k, refl));
           long = λ _. omega (arith, r.room);
@@ -85,7 +85,7 @@ module _ (s : List ℕ) (i : IdCode) (c : Cursor) (t : Since) where
 
 -- ---- the command at a place, from a cursor that stands there
 abbrev pub there : ℕ → Cursor
-there at = record { place = at; line = 1; pending = false; sim = Open.None }
+there at = record { place = at; line = 1; pending = false; sim = None }
 
 module _ (s : List ℕ) (at e : ℕ) (k : Command) (r : Reads s at e k) (short : length s ≤ limit) where
   pub reads-there : next_from s (there at) ≡ Next.Command k (word_read (there at) e (get_or s e 0))

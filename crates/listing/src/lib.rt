@@ -1,36 +1,29 @@
 // The listing of a code's changes into lent rows: an addition to what vcd 0.7.0 has.
 #![tactic(auto)]
 
-ghost use Rattle.std.specs.Prelude.{◌≡◌, length, ℕ, ◌+◌, ◌≤◌, ◌<◌};
+ghost use Rattle.std.specs.Prelude.{◌≡◌, length, ℕ, ◌+◌, ◌≤◌, ◌<◌, Option};
 ghost use Rattle.listing.specs.Listing.{list_of, list_on_of, answer_of, Passes, Held};
 ghost use Rattle.fast.specs.Fast.{Reads};
 ghost use Rattle.command.specs.declared.Command.{Command};
 ghost use Rattle.change.specs.Rows.{filled};
-ghost use Rattle.change.specs.declared.Since.{Since};
 ghost use Rattle.token.specs.Read.{Valid};
 ghost use Rattle.text.specs.Texts.{limit};
 
-pub use change::{Change, ChangeKind, Since, WORDS, change_at};
-use command::{Command, Open, Refusal, Time};
+pub use change::{Change, ChangeKind, WORDS, change_at};
+pub use command::Ended;
+use command::{Command, Refusal, Time};
 use fast::Fast;
 use idcode::IdCode;
 use list_step::Step;
 use parser::Next;
 use token::Cursor;
 
-// How a listing ended: at the end of the input, or by a refusal and the line of it.
-#[derive(Clone, Copy)]
-pub enum Ended {
-    Whole,
-    Refused(Refusal, u64),
-}
-
 #[derive(Clone, Copy)]
 pub struct ListAnswer {
     pub cursor: Cursor,
     pub count: usize,
     pub ended: Ended,
-    pub since: Since,
+    pub since: Option<Time>,
 }
 
 // Lists the changes of `code` from the cursor on, where no timestamp was read before.
@@ -38,16 +31,22 @@ pub fn list(input: &[u8], c: Cursor, code: IdCode, rows: &mut [u64]) -> ListAnsw
     ensures answer { result ≡ answer_of (list_of input.now c code rows.old) }
     ensures table { rows.new ≡ filled (list_of input.now c code rows.old).rows rows.old }
 {
-    list_on(input, c, Since::None, code, rows)
+    list_on(input, c, None, code, rows)
 }
 
 // Lists on from a cursor before which `since` was the last time: after 24, from the cursor and the time that were answered.
-pub fn list_on(input: &[u8], c: Cursor, since: Since, code: IdCode, rows: &mut [u64]) -> ListAnswer
+pub fn list_on(
+    input: &[u8],
+    c: Cursor,
+    since: Option<Time>,
+    code: IdCode,
+    rows: &mut [u64],
+) -> ListAnswer
     ensures answer { result ≡ answer_of (list_on_of input.now c since code rows.old) }
     ensures table { rows.new ≡ filled (list_on_of input.now c since code rows.old).rows rows.old }
 {
     if !parser::placed(input, c) {
-        return answer(c, 0, Ended::Refused(Refusal::BadPlace, c.line), since);
+        return answer(c, 0, Err((Refusal::BadPlace, c.line)), since);
     }
     let cap = rows.len() / change::WORDS;
     let mut cur = c;
@@ -59,7 +58,7 @@ pub fn list_on(input: &[u8], c: Cursor, since: Since, code: IdCode, rows: &mut [
         last = ran.since;
         match list_step::step_fast(input, cur, code) {
             Step::Time(d, t) => {
-                last = Since::Time(t);
+                last = Some(t);
                 cur = d;
             }
             Step::Change(d, kind, v) => {
@@ -74,10 +73,10 @@ pub fn list_on(input: &[u8], c: Cursor, since: Since, code: IdCode, rows: &mut [
                 cur = d;
             }
             Step::Refused(d, e, line) => {
-                return answer(d, n, Ended::Refused(e, line), last);
+                return answer(d, n, Err((e, line)), last);
             }
             Step::Done(d) => {
-                return answer(d, n, Ended::Whole, last);
+                return answer(d, n, Ok(()), last);
             }
         }
     }
@@ -87,11 +86,11 @@ pub fn list_on(input: &[u8], c: Cursor, since: Since, code: IdCode, rows: &mut [
 #[derive(Clone, Copy)]
 struct Stand {
     cursor: Cursor,
-    since: Since,
+    since: Option<Time>,
 }
 
 // Passes the most usual commands that are no changes of the code. Of times only the place of the last is kept.
-fn fast_run(input: &[u8], c: Cursor, before: Since, code: IdCode) -> Stand
+fn fast_run(input: &[u8], c: Cursor, before: Option<Time>, code: IdCode) -> Stand
     requires { Valid input.now c }
     ensures { Passes input.now code c before result.cursor result.since }
 {
@@ -122,9 +121,9 @@ fn fast_run(input: &[u8], c: Cursor, before: Since, code: IdCode) -> Stand
 }
 
 // The run whose last time stands at `last`; at the end of the input where it passed none.
-fn so_far(input: &[u8], cursor: Cursor, last: usize, before: Since) -> Stand
+fn so_far(input: &[u8], cursor: Cursor, last: usize, before: Option<Time>) -> Stand
     requires { (length input.now ≤ limit) × (last < length input.now → last + 34 ≤ length input.now) }
-    ensures { (result.cursor ≡ cursor) × ((u : Since) → Held input.now before last u → result.since ≡ u) }
+    ensures { (result.cursor ≡ cursor) × ((u : Option Time) → Held input.now before last u → result.since ≡ u) }
 {
     if input.len() <= last {
         return Stand {
@@ -139,44 +138,44 @@ fn so_far(input: &[u8], cursor: Cursor, last: usize, before: Since) -> Stand
 }
 
 // The timestamp that stands at a place.
-fn time_at(input: &[u8], at: usize) -> Since
+fn time_at(input: &[u8], at: usize) -> Option<Time>
     requires { (length input.now ≤ limit) × (at + 34 ≤ length input.now) }
-    ensures { (v e : ℕ) → Reads input.now at e (Command.Timestamp (record { 0 = v })) → result ≡ Since.Time (record { 0 = v }) }
+    ensures { (v e : ℕ) → Reads input.now at e (Command.Timestamp (record { 0 = v })) → result ≡ Some (record { 0 = v }) }
 {
     match fast::parse_short(input, at) {
-        Fast::Time(t, _) => Since::Time(Time(t)),
+        Fast::Time(t, _) => Some(Time(t)),
         _ => time_read(input, at),
     }
 }
 
 // The timestamp that stands at a place, by the slow path.
-fn time_read(input: &[u8], at: usize) -> Since
+fn time_read(input: &[u8], at: usize) -> Option<Time>
     requires { (length input.now ≤ limit) × (at ≤ length input.now) }
-    ensures { (v e : ℕ) → Reads input.now at e (Command.Timestamp (record { 0 = v })) → result ≡ Since.Time (record { 0 = v }) }
+    ensures { (v e : ℕ) → Reads input.now at e (Command.Timestamp (record { 0 = v })) → result ≡ Some (record { 0 = v }) }
 {
     let c = Cursor {
         place: at,
         line: 1,
         pending: false,
-        sim: Open::None,
+        sim: None,
     };
     match parser::next_command(input, c) {
         Next::Command(k, _) => match k {
-            Command::Timestamp(t) => Since::Time(t),
-            _ => Since::None,
+            Command::Timestamp(t) => Some(t),
+            _ => None,
         },
-        _ => Since::None,
+        _ => None,
     }
 }
 
 // 24: the cursor and the last time as they stood before the change.
-fn full(c: Cursor, count: usize, since: Since) -> ListAnswer
-    ensures { result ≡ record { cursor = c; count = count; ended = Ended.Refused Refusal.ListFull c.line; since = since } }
+fn full(c: Cursor, count: usize, since: Option<Time>) -> ListAnswer
+    ensures { result ≡ record { cursor = c; count = count; ended = Err (Refusal.ListFull, c.line); since = since } }
 {
-    answer(c, count, Ended::Refused(Refusal::ListFull, c.line), since)
+    answer(c, count, Err((Refusal::ListFull, c.line)), since)
 }
 
-fn answer(cursor: Cursor, count: usize, ended: Ended, since: Since) -> ListAnswer
+fn answer(cursor: Cursor, count: usize, ended: Ended, since: Option<Time>) -> ListAnswer
     ensures { result ≡ record { cursor = cursor; count = count; ended = ended; since = since } }
 {
     ListAnswer {

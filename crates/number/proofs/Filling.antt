@@ -1,15 +1,15 @@
 -- The loop that writes a number's digits into a row of zeros or a buffer, from the last to the first.
-use Prim.Native.Nat.{ℕ, zero, suc, ◌+◌, ◌-◌, ◌/◌, ◌%◌, ◌≤◌, ◌<◌}
+use Rattle.std.specs.Prelude.{Some}
+use Prim.Native.Nat.{ℕ, suc, ◌+◌, ◌-◌, ◌/◌, ◌%◌, ◌≤◌, ◌<◌}
 use mathlib.Core.Path.{◌≡◌, sym, ◌∙◌, ap}
 use mathlib.Core.List.{List, [], ◌∷◌, ◌++◌}
 use native.Mathlib.Nat.{le_refl}
-use native.Mathlib.Numerals.{unary_clauses}
 use native.Mathlib.Omega.{arith}
 use lib.Dec.{ltb}
-use lib.ListN.{length, get_or, take, drop, set, replicate, length-append, length-drop, take-append-drop, get_or-append}
+use lib.ListN.{length, get_or, take, drop, set, replicate, length-append, take-append-drop, get_or-append}
 use lib.Seq.{take-suc, take_at, take-length, get_or_at, drop-cons, drop-append_seam, append_snoc, set_at, length-take-le}
+use Rattle.std.proofs.lemmas.List.{drop-replicate}
 use Rattle.text.specs.Texts.{spelled, put_answer, put_bytes}
-use Rattle.text.specs.declared.Placed.{Placed}
 use Rattle.text.proofs.Lists.{by-test}
 use Rattle.text.proofs.Rows.{row-spelled, copy_done}
 use Rattle.number.specs.Decimal.{decimal_of}
@@ -82,16 +82,6 @@ fill_suc n old bytes rest j f =
     }
 
 module _ (n : ℕ) (old bytes : List ℕ) (rest i : ℕ) (f : Filled n old bytes rest i) where
-  pub fill-length : length bytes ≡ length old
-  fill-length =
-      omega (
-        arith,
-        f.room,
-        f.within,
-        simp (length-append, length-drop) at (ap length f.made),
-        length-take-le i old (omega (arith, f.room, f.within)),
-      )
-
   pub fill_more : 0 < i → Filled n old (set bytes (i - 1) (48 + rest % 10)) (rest / 10) (i - 1)
   fill_more g = let e : i ≡ suc (i - 1) = omega arith in fill_suc n old bytes rest (i - 1) (rw e at f)
 
@@ -99,16 +89,11 @@ module _ (n : ℕ) (old bytes : List ℕ) (rest i : ℕ) (f : Filled n old bytes
   fill_done h = let z : i ≡ 0 = omega arith in rw z at f.made
 
 -- the two ways to hand it over: in a row of zeros, and in the buffer of whoever asks
-drop-replicate : (m k a : ℕ) → drop k (replicate m a) ≡ replicate (m - k) a
-drop-replicate m zero a = simp unary_clauses
-drop-replicate zero (suc k) a = let z : 0 - suc k ≡ 0 = omega arith in rw z
-drop-replicate (suc m) (suc k) a = simp unary_clauses (drop-replicate m k a)
-
 module _ (n len : ℕ) (bytes : List ℕ) (rest i : ℕ) (e : len ≡ length (decimal_of n)) (h : i ≤ 0) where
   pub fill-spelled : Filled n (replicate 32 0) bytes rest i → record { bytes = bytes; len = len } ≡ spelled (decimal_of n)
-  fill-spelled f = row-spelled (decimal_of n) bytes len (sym e) (fill_done n (replicate 32 0) bytes rest i f h ∙ rw (← e, drop-replicate 32 len 0))
+  fill-spelled f = row-spelled (decimal_of n) bytes len (sym e) (fill_done n (replicate 32 0) bytes rest i f h ∙ rw (← e, drop-replicate {X = ℕ} len 32 0))
 
-  pub fill-put : (old : List ℕ) → Filled n old bytes rest i → (Placed.Count len ≡ put_answer (decimal_of n) old) × (bytes ≡ put_bytes (decimal_of n) old)
+  pub fill-put : (old : List ℕ) → Filled n old bytes rest i → (Some len ≡ put_answer (decimal_of n) old) × (bytes ≡ put_bytes (decimal_of n) old)
   fill-put old f =
       let t : List ℕ = decimal_of n in
       rw e (copy_done t old bytes (length t) (record { room = f.room; within = le_refl _; made = rw (take-length t) (fill_done n old bytes rest i f h) }) (le_refl _))

@@ -1,5 +1,5 @@
--- A number taken to the other side of zero by the machine: reading one below zero, and writing it.
-use Prim.Native.Nat.{ℕ, ◌+◌, ◌^◌, ◌<◌}
+-- A number taken to the other side of zero by the machine, to write one below zero.
+use Prim.Native.Nat.{ℕ, ◌^◌, ◌<◌}
 use mathlib.Core.Path.{◌≡◌, refl, sym, ◌∙◌, ap}
 use mathlib.Core.Bool.{true, false, false≢true}
 use mathlib.Core.List.{◌++◌}
@@ -17,7 +17,7 @@ use Rattle.text.specs.Texts.{spelled, text_in}
 use Rattle.text.specs.declared.Spelled.{Spelled}
 use Rattle.text.proofs.Rows.{joins}
 use Rattle.number.specs.Decimal.{decimal_of, signed_of}
-use Rattle.number.proofs.Signs.{neg-fits, signed-short}
+use Rattle.number.proofs.Signs.{signed-short}
 
 -- a number as its bits have it
 abbrev held : Width → ℤ → ℤ
@@ -32,23 +32,6 @@ module _ (w : Width) (z : ℤ) (f : SFits w z) (g : SFits w (neg_ℤ z)) where
 
   other-held : held w (pos 0 -ℤ held w z) ≡ neg_ℤ z
   other-held = to_z-of_z w _ other_fits ∙ other
-
--- ---- reading: the digits of up to 2^31 stand behind a `-`
-module _ (v : ℕ) (h : v < 2 ^ 31 + 1) where
-  pub read_wide : SFits w64 (pos v)
-  read_wide = record { sfits = omega arith }
-
-  pub read-other : SFits w64 (pos 0 -ℤ held w64 (pos v))
-  read-other = other_fits w64 (pos v) read_wide (neg-fits w64 v (omega arith))
-
-  read_held : held w64 (pos 0 -ℤ held w64 (pos v)) ≡ neg_ℤ (pos v)
-  read_held = other-held w64 (pos v) read_wide (neg-fits w64 v (omega arith))
-
-  pub read-narrow : SFits w32 (held w64 (pos 0 -ℤ held w64 (pos v)))
-  read-narrow = rw read_held (neg-fits w32 v h)
-
-  pub read_below : held w32 (held w64 (pos 0 -ℤ held w64 (pos v))) ≡ neg_ℤ (pos v)
-  read_below = to_z-of_z w32 _ read-narrow ∙ read_held
 
 -- ---- writing: a number of 32 bits, not below zero
 from_zero : (z : ℤ) → SFits w32 z → le_z (pos 0) z ≡ true → T (non_neg z) × Fits w64 (nat_abs z) × (decimal_of (nat_abs z) ≡ signed_of z)
@@ -98,8 +81,17 @@ module _ (z : ℤ) (f : SFits w32 z) (e : le_z (pos 0) (held w32 z) ≡ false) w
   pub write-digits : bytes "-" ++ decimal_of (nat_abs size) ≡ signed_of z
   write-digits = rw size_is below.3
 
-  pub write-below : (a b r : Spelled) → a ≡ spelled (bytes "-") → b ≡ spelled (decimal_of (nat_abs size)) → r ≡ spelled (take 32 (text_in a ++ text_in b))
-      → r ≡ spelled (signed_of z)
-  write-below a b r p q j =
-      (rw (p, q) at j) ∙ joins (bytes "-") (decimal_of (nat_abs size)) (omega (arith, ap length write-digits, signed-short z f))
-      ∙ ap spelled write-digits
+-- ---- writing: the number without its sign, as `unsigned_abs` gives it
+minus : (z : ℤ) → le_z (pos 0) z ≡ false → bytes "-" ++ decimal_of (nat_abs z) ≡ signed_of z
+minus (pos n) e = absurd (false≢true (sym e ∙ le-leb 0 n (omega arith)))
+minus (negsuc n) e = refl
+
+module _ (z : ℤ) (f : SFits w32 z) (e : le_z (pos 0) (held w32 z) ≡ false) where
+  signed_is : bytes "-" ++ decimal_of (nat_abs (held w32 z)) ≡ signed_of z
+  signed_is = minus (held w32 z) e ∙ ap signed_of (kept z f)
+
+  pub write_signed : (m : ℕ) (a b r : Spelled) → m ≡ nat_abs (held w32 z) → a ≡ spelled (bytes "-") → b ≡ spelled (decimal_of m)
+      → r ≡ spelled (take 32 (text_in a ++ text_in b)) → r ≡ spelled (signed_of z)
+  write_signed m a b r h p q j =
+      (rw (p, q, h) at j) ∙ joins (bytes "-") (decimal_of (nat_abs (held w32 z))) (omega (arith, ap length signed_is, signed-short z f))
+      ∙ ap spelled signed_is

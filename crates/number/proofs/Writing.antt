@@ -1,4 +1,5 @@
 -- Laws of the text of a number: its digits one by one, its length, and that reading it gives the number.
+use Rattle.std.specs.Prelude.{Some}
 use Prim.Native.Nat.{ℕ, zero, suc, ◌+◌, ◌-◌, ◌*◌, ◌/◌, ◌%◌, ◌^◌, ◌≤◌, ◌<◌}
 use mathlib.Core.Path.{◌≡◌, refl, sym, ◌∙◌}
 use mathlib.Core.Bool.{true, cond}
@@ -10,7 +11,6 @@ use borrow.Author.Tests.{lt-ltb, le-ltb}
 use lib.Dec.{ltb}
 use lib.ListN.{length, get_or, length-append}
 use Rattle.text.proofs.Lists.{cond_both}
-use Rattle.number.specs.declared.Number.TheVariants.{Is}
 use Rattle.number.specs.Decimal.{is_digit, all_digits, value, number_from, digits_below, parse_below, digits_of, decimal_of}
 use Rattle.number.proofs.Laws.{digit, no_sign, sign-no}
 
@@ -92,18 +92,18 @@ digits_decimal =
     (λ n h. rw (one-digit n h, digit (48 + n) (omega arith) (omega arith)))
     (λ n h ih. rw (more-digits n h) (all_snoc (48 + n % 10) (decimal_of (n / 10)) (digit _ (omega arith) (omega arith)) ih))
 
-read : (limit n : ℕ) (s : List ℕ) → 0 < length s → all_digits s ≡ true → value 0 s ≡ n → n < limit → digits_below limit s ≡ Is n
+read : (limit n : ℕ) (s : List ℕ) → 0 < length s → all_digits s ≡ true → value 0 s ≡ n → n < limit → digits_below limit s ≡ Some n
 unfolding digits_below number_from
 read limit n [] l e v h = absurd (omega arith)
 read limit n (b ∷ s) l e v h = rw (e, v, lt-ltb n limit h)
 
 -- what is written for a number is read as that number, under any limit above it: as digits alone, and where a `+` may stand before them
-pub digits-written : (limit n : ℕ) → n < limit → digits_below limit (decimal_of n) ≡ Is n
+pub digits-written : (limit n : ℕ) → n < limit → digits_below limit (decimal_of n) ≡ Some n
 digits-written limit n h = read limit n (decimal_of n) (some n) (digits_decimal n) (value-decimal n) h
 
 -- it begins with no sign
 pub unsigned-decimal : (m n : ℕ) → m < 48 → get_or (decimal_of n) 0 0 ≡ m → ⊥
 unsigned-decimal m n g = no_sign m (decimal_of n) g (some n) (digits_decimal n)
 
-pub read-written : (limit n : ℕ) → n < limit → parse_below limit (decimal_of n) ≡ Is n
+pub read-written : (limit n : ℕ) → n < limit → parse_below limit (decimal_of n) ≡ Some n
 read-written limit n h = sym (sign-no limit (decimal_of n) (unsigned-decimal 43 n (omega arith))) ∙ digits-written limit n h

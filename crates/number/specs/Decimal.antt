@@ -1,11 +1,5 @@
 -- Decimal numbers as texts: what a text means, and the text of a number.
-use Rattle.std.specs.Prelude.{ℕ, zero, suc, ◌+◌, ◌-◌, ◌*◌, ◌/◌, ◌%◌, ◌^◌, ◌<◌, Bool, true, false, cond, List, [], ◌∷◌, ◌++◌, leb, ltb, eqb, ℤ, pos, negsuc, neg_ℤ}
-use Rattle.number.specs.declared.Number.{Number}
-use Rattle.number.specs.declared.Number.TheVariants.{Is, Refused}
-use Rattle.number.specs.declared.Number32.{Number32}
-use Rattle.number.specs.declared.Number32.TheVariants.{Is as Is32, Refused as Refused32}
-use Rattle.number.specs.declared.Signed.{Signed}
-use Rattle.number.specs.declared.Signed.TheVariants.{Is as IsS, Refused as RefusedS}
+use Rattle.std.specs.Prelude.{ℕ, zero, suc, ◌+◌, ◌-◌, ◌*◌, ◌/◌, ◌%◌, ◌^◌, ◌<◌, Bool, true, false, cond, List, [], ◌∷◌, ◌++◌, leb, ltb, eqb, ℤ, pos, negsuc, neg_ℤ, Option, Some, None}
 use Rattle.text.specs.Bytes.{bytes}
 
 -- `0` to `9`
@@ -22,12 +16,12 @@ value v [] = v
 value v (b ∷ s) = value (v * 10 + (b - 48)) s
 
 -- the number of v's digits and then the text's, where those are digits and the number is below the limit
-unfoldable pub number_from : ℕ → ℕ → List ℕ → Number
-number_from limit v s = cond (all_digits s) (cond (ltb (value v s) limit) (Is (value v s)) Refused) Refused
+unfoldable pub number_from : ℕ → ℕ → List ℕ → Option ℕ
+number_from limit v s = cond (all_digits s) (cond (ltb (value v s) limit) (Some (value v s)) None) None
 
 -- at least one digit
-unfoldable pub digits_below : ℕ → List ℕ → Number
-digits_below limit [] = Refused
+unfoldable pub digits_below : ℕ → List ℕ → Option ℕ
+digits_below limit [] = None
 digits_below limit (b ∷ s) = number_from limit 0 (b ∷ s)
 
 -- the text behind a `+`, or all of it where it has none
@@ -36,29 +30,29 @@ unsigned [] = []
 unsigned (b ∷ s) = cond (eqb b 43) s (b ∷ s)
 
 -- what a text means as a number below the limit
-unfoldable pub parse_below : ℕ → List ℕ → Number
+unfoldable pub parse_below : ℕ → List ℕ → Option ℕ
 parse_below limit s = digits_below limit (unsigned s)
 
-abbrev pub narrow : Number → Number32
-narrow (Is v) = Is32 v
-narrow Refused = Refused32
+abbrev pub narrow : Option ℕ → Option ℕ
+narrow (Some v) = Some v
+narrow None = None
 
 -- a number that is accepted is below the limit
-abbrev pub Below : ℕ → Number → Type 0
-Below limit (Is v) = v < limit
-Below limit Refused = Unit {0}
+abbrev pub Below : ℕ → Option ℕ → Type 0
+Below limit (Some v) = v < limit
+Below limit None = Unit {0}
 
-abbrev pub plain : Number → Signed
-plain (Is v) = IsS (pos v)
-plain Refused = RefusedS
+abbrev pub plain : Option ℕ → Option ℤ
+plain (Some v) = Some (pos v)
+plain None = None
 
-abbrev pub negated : Number → Signed
-negated (Is v) = IsS (neg_ℤ (pos v))
-negated Refused = RefusedS
+abbrev pub negated : Option ℕ → Option ℤ
+negated (Some v) = Some (neg_ℤ (pos v))
+negated None = None
 
 -- behind a `-` the digits of up to 2^31, else a number below 2^31
-unfoldable pub parse_signed : List ℕ → Signed
-parse_signed [] = RefusedS
+unfoldable pub parse_signed : List ℕ → Option ℤ
+parse_signed [] = None
 parse_signed (b ∷ s) = cond (eqb b 45) (negated (digits_below (2 ^ 31 + 1) s)) (plain (parse_below (2 ^ 31) (b ∷ s)))
 
 -- the digits of n: its last digit behind those of n / 10, where n has more than one (and n has at most `more` + 1)

@@ -15,115 +15,82 @@ ghost use Rattle.number.specs.Decimal.{
   signed_of,
 };
 
-use text::{Placed, Spelled};
+use text::Spelled;
 
-#[derive(Clone, Copy)]
-pub enum Number {
-    Is(u64),
-    Refused,
-}
-
-#[derive(Clone, Copy)]
-pub enum Number32 {
-    Is(u32),
-    Refused,
-}
-
-pub fn parse_u32(s: &[u8]) -> Number32
+pub fn parse_u32(s: &[u8]) -> Option<u32>
     ensures { result ≡ narrow (parse_below (2 ^ 32) s.now) }
 {
-    let n = parse_most(s, 4294967295);
-    match n {
-        Number::Is(v) => Number32::Is(v as u32),
-        Number::Refused => Number32::Refused,
+    match parse_most(s, u32::MAX as u64) {
+        Some(v) => Some(v as u32),
+        None => None,
     }
 }
 
-pub fn parse_u64(s: &[u8]) -> Number
+pub fn parse_u64(s: &[u8]) -> Option<u64>
     ensures { result ≡ parse_below (2 ^ 64) s.now }
 {
-    parse_most(s, 18446744073709551615)
+    parse_most(s, u64::MAX)
 }
 
 // The number that a text means, where that is at most `most`.
-pub fn parse_most(s: &[u8], most: u64) -> Number
+pub fn parse_most(s: &[u8], most: u64) -> Option<u64>
     ensures { result ≡ parse_below (most + 1) s.now }
 {
-    if s.len() == 0 {
-        return Number::Refused;
-    }
-    if s[0] == 43 {
-        return digits_most(&s[1..], most);
-    }
-    digits_most(s, most)
+    digits_most(s.strip_prefix(b"+").unwrap_or(s), most)
 }
 
 // The same of digits alone.
-fn digits_most(s: &[u8], most: u64) -> Number
+fn digits_most(s: &[u8], most: u64) -> Option<u64>
     ensures { result ≡ digits_below (most + 1) s.now }
 {
-    if s.len() == 0 {
-        return Number::Refused;
+    if s.is_empty() {
+        return None;
     }
     let mut v: u64 = 0;
-    let mut i: usize = 0;
-    while i < s.len() {
-        let b = s[i];
-        if b < 48 || 57 < b {
-            return Number::Refused;
+    for &b in s {
+        if b < b'0' || b'9' < b {
+            return None;
         }
-        let d = (b - 48) as u64;
+        let d = (b - b'0') as u64;
         if most < d || (most - d) / 10 < v {
-            return Number::Refused;
+            return None;
         }
         v = v * 10 + d;
-        i += 1;
     }
-    Number::Is(v)
-}
-
-#[derive(Clone, Copy)]
-pub enum Signed {
-    Is(i32),
-    Refused,
+    Some(v)
 }
 
 // The same with an optional sign, as Rust's from_str for i32.
-pub fn parse_i32(s: &[u8]) -> Signed
+pub fn parse_i32(s: &[u8]) -> Option<i32>
     ensures { result ≡ parse_signed s.now }
 {
-    if s.len() == 0 {
-        return Signed::Refused;
+    match s.strip_prefix(b"-") {
+        Some(digits) => below_zero(digits_most(digits, 2147483648)),
+        None => from_zero(parse_most(s, 2147483647)),
     }
-    if s[0] == 45 {
-        let m = digits_most(&s[1..], 2147483648);
-        return below_zero(m);
-    }
-    let n = parse_most(s, 2147483647);
-    from_zero(n)
 }
 
-fn from_zero(n: Number) -> Signed
+fn from_zero(n: Option<u64>) -> Option<i32>
     requires { Below (2 ^ 31) n }
     ensures { result ≡ plain n }
 {
     match n {
-        Number::Is(v) => Signed::Is(v as i32),
-        Number::Refused => Signed::Refused,
+        Some(v) => Some(v as i32),
+        None => None,
     }
 }
 
-fn below_zero(n: Number) -> Signed
+fn below_zero(n: Option<u64>) -> Option<i32>
     requires { Below (2 ^ 31 + 1) n }
     ensures { result ≡ negated n }
 {
     match n {
-        Number::Is(v) => Signed::Is((0 - (v as i64)) as i32),
-        Number::Refused => Signed::Refused,
+        Some(v) => Some((0 - (v as i64)) as i32),
+        None => None,
     }
 }
 
-// How many digits a number has.
+// How many digits a number has: the number drives the loop, and there is no list to go over.
 pub fn digits(n: u64) -> usize
     ensures { result ≡ length (decimal_of n) }
 {
@@ -143,9 +110,7 @@ pub fn decimal(n: u64) -> Spelled
     let len = digits(n);
     let mut bytes = [0u8; 32];
     let mut rest = n;
-    let mut i = len;
-    while 0 < i {
-        i -= 1;
+    for i in (0..len).rev() {
         bytes[i] = 48 + (rest % 10) as u8;
         rest = rest / 10;
     }
@@ -153,29 +118,28 @@ pub fn decimal(n: u64) -> Spelled
 }
 
 // The text of a number, put at the start of `out`.
-pub fn put_decimal(n: u64, out: &mut [u8]) -> Placed
+pub fn put_decimal(n: u64, out: &mut [u8]) -> Option<usize>
     ensures { (result ≡ put_answer (decimal_of n) out.old) × (out.new ≡ put_bytes (decimal_of n) out.old) }
 {
     let len = digits(n);
     if out.len() < len {
-        return Placed::NoRoom;
+        return None;
     }
     let mut rest = n;
-    let mut i = len;
-    while 0 < i {
-        i -= 1;
+    for i in (0..len).rev() {
         out[i] = 48 + (rest % 10) as u8;
         rest = rest / 10;
     }
-    Placed::Count(len)
+    Some(len)
 }
 
 // The text of a number with a sign.
 pub fn decimal_i32(n: i32) -> Spelled
     ensures { result ≡ spelled (signed_of n) }
 {
+    let size = decimal(n.unsigned_abs() as u64);
     if 0 <= n {
-        return decimal(n as u64);
+        return size;
     }
-    text::join(text::spell(b"-"), decimal((0 - (n as i64)) as u64))
+    text::join(text::spell(b"-"), size)
 }

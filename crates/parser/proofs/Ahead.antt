@@ -1,4 +1,6 @@
 -- Reading only goes ahead, once for every plan: an answer's cursor is valid and not before the one that was given, and a command's is past it.
+use Rattle.std.specs.Prelude.{Option, Some, None, Ok, Err}
+use Rattle.command.specs.declared.SimulationCommand.{SimulationCommand}
 use Prim.Native.Nat.{ℕ, ◌<◌}
 use mathlib.Core.Path.{◌≡◌}
 use mathlib.Core.Bool.{true}
@@ -8,16 +10,14 @@ use borrow.Author.Tests.{ltb-true, leb-true, le-leb}
 use lib.Dec.{ltb}
 use lib.ListN.{length, get_or}
 use Rattle.text.specs.Texts.{part}
-use Rattle.command.specs.declared.Open.{Open}
 use Rattle.text.specs.declared.Text.{Text}
 use Rattle.command.specs.declared.Command.{Command}
 use Rattle.text.proofs.Lists.{by-test, both}
-use Rattle.token.specs.Read.{Valid, byte_read, skipped, token, text_from}
+use Rattle.token.specs.Read.{Reading, Valid, byte_read, skipped, token, text_from}
 use Rattle.parser_part.specs.Plan.{Plan, answer, begins, ends, ended, refuse, a_token, a_text, with_open, and_then, run, kind_of, kind_plan}
-use Rattle.parser.specs.Next.{is_good, found, next_from}
+use Rattle.parser.specs.Next.{is_good, next_of, found, next_from}
 use Rattle.token.specs.declared.Cursor.{Cursor}
-use Rattle.token.specs.declared.Token.{Token}
-use Rattle.parser_part.specs.declared.Next.{Next}
+use Rattle.parser.specs.declared.Next.{Next}
 use Rattle.token.proofs.Reading.{From, from_end, from_step, from-trans, place-step}
 use Rattle.token.proofs.Tokens.{Kept, skipped-from, token-kept, text-kept}
 
@@ -45,22 +45,22 @@ next-trans s c d (Next.Command k e) f g = from-trans s c d e f g
 next-trans s c d (Next.Refused x n e) f g = from-trans s c d e f g
 next-trans s c d (Next.Done e) f g = from-trans s c d e f g
 
-pub valid-open : (s : List ℕ) (c : Cursor) (o : Open) → Valid s c → Valid s (with_open c o)
+pub valid-open : (s : List ℕ) (c : Cursor) (o : Option SimulationCommand) → Valid s c → Valid s (with_open c o)
 valid-open s c o v = record { short = v.short; within = v.within; started = v.started; counted = v.counted }
 
-then-from : (s : List ℕ) (c : Cursor) (more : Text → Cursor → Next) (k : Token) → Kept s c k → ((t : Text) (d : Cursor) → Valid s d → NextFrom s d (more t d))
-    → NextFrom s c (and_then more k)
-then-from s c more (Token.Word t d) f g = next-trans s c d (more t d) f.0 (g t d f.0.valid)
-then-from s c more (Token.Refused e d) f g = f
+then-from : (s : List ℕ) (c : Cursor) (more : Text → Cursor → Reading Command) (k : Reading Text) → Kept s c k → ((t : Text) (d : Cursor) → Valid s d → NextFrom s d (next_of (more t d)))
+    → NextFrom s c (next_of (and_then more k))
+then-from s c more (Ok (t, d)) f g = next-trans s c d (next_of (more t d)) f.0 (g t d f.0.valid)
+then-from s c more (Err (e, d)) f g = f
 
-ended-from : (o : Open) (s : List ℕ) (c : Cursor) → Valid s c → NextFrom s c (ended o c)
-ended-from Open.None s c v = record { valid = v; ahead = omega arith }
-ended-from (Open.Of k) s c v = record { valid = valid-open s c Open.None v; ahead = omega arith }
+ended-from : (o : Option SimulationCommand) (s : List ℕ) (c : Cursor) → Valid s c → NextFrom s c (next_of (ended o c))
+ended-from None s c v = record { valid = v; ahead = omega arith }
+ended-from (Some k) s c v = record { valid = valid-open s c None v; ahead = omega arith }
 
-pub run-from : (p : Plan) (s : List ℕ) (c : Cursor) → Valid s c → NextFrom s c (run p s c)
+pub run-from : (p : Plan) (s : List ℕ) (c : Cursor) → Valid s c → NextFrom s c (next_of (run p s c))
 unfolding run
 run-from (answer k) s c v = record { valid = v; ahead = omega arith }
-run-from (begins k) s c v = record { valid = valid-open s c (Open.Of k) v; ahead = omega arith }
+run-from (begins k) s c v = record { valid = valid-open s c (Some k) v; ahead = omega arith }
 run-from ends s c v = ended-from c.sim s c v
 run-from (refuse e) s c v = record { valid = v; ahead = omega arith }
 run-from (a_token n f) s c v = then-from s c _ (token s c n) (token-kept s c n v) (λ t d w. run-from (f t (part s t)) s d w)
@@ -85,7 +85,7 @@ found-past s c d f =
     let h : d.place < length s = ltb-true _ _ e in
     let b : ℕ = get_or s d.place 0 in
     let g = from_step s d b f.valid h in
-    rw e (past s c (byte_read d b) (run (kind_plan (kind_of b)) s (byte_read d b)) (from-trans s c d (byte_read d b) f g) (omega (arith, f.ahead, place-step d b)) (run-from (kind_plan (kind_of b)) s (byte_read d b) g.valid)))
+    rw e (past s c (byte_read d b) (next_of (run (kind_plan (kind_of b)) s (byte_read d b))) (from-trans s c d (byte_read d b) f g) (omega (arith, f.ahead, place-step d b)) (run-from (kind_plan (kind_of b)) s (byte_read d b) g.valid)))
     (λ e. rw e (from_end s c d f))
 
 pub next_past : (s : List ℕ) (c : Cursor) → Valid s c → Past s c (next_from s c)

@@ -10,7 +10,7 @@ use Rattle.command.specs.declared.Refusal.{Refusal}
 use Rattle.parser.specs.Next.{next_from}
 use Rattle.parser.specs.All.{command, followed, commands_on, commands, Said, said, refusal, done, says, Reading, reads, stops, ends, reading, read_all}
 use Rattle.token.specs.declared.Cursor.{Cursor}
-use Rattle.parser_part.specs.declared.Next.{Next}
+use Rattle.parser.specs.declared.Next.{Next}
 use Rattle.parser.proofs.Ahead.{command-past}
 
 -- a command leaves less to read

@@ -1,4 +1,5 @@
 -- An answer other than Done and 1 stays the same whatever bytes are appended: once for every plan.
+use Rattle.std.specs.Prelude.{Ok, Err}
 use Prim.Native.Nat.{ℕ, suc, ◌+◌, ◌≤◌, ◌<◌}
 use mathlib.Core.Path.{◌≡◌, refl, ap}
 use mathlib.Core.Bool.{Bool, true, not, false≢true}
@@ -14,14 +15,13 @@ use Rattle.text.specs.Texts.{limit, part}
 use Rattle.value.specs.Values.{is_value}
 use Rattle.command.specs.Refusals.{number_of}
 use Rattle.text.specs.declared.Text.{Text}
+use Rattle.command.specs.declared.Command.{Command}
 use Rattle.text.proofs.Lists.{by-test}
 use Rattle.text.proofs.Equal.{starts-long, starts_more}
-use Rattle.token.specs.Read.{Bound, most, values, unlimited, passed, values_in, Valid, byte_read, after, rest, gap, word, skipped, word_token, word_here, token, text_to, text_from}
+use Rattle.token.specs.Read.{Reading, Bound, most, values, unlimited, passed, values_in, Valid, byte_read, after, rest, gap, word, skipped, word_token, word_here, token, text_to, text_from}
 use Rattle.parser_part.specs.Plan.{Plan, answer, begins, ends, refuse, a_token, a_text, and_then, run, kind_of, kind_plan}
-use Rattle.parser.specs.Next.{found, next_from, settled}
+use Rattle.parser.specs.Next.{next_of, found, next_from, settled}
 use Rattle.token.specs.declared.Cursor.{Cursor}
-use Rattle.token.specs.declared.Token.{Token}
-use Rattle.parser_part.specs.declared.Next.{Next}
 use Rattle.token.proofs.Reading.{place_after, from_step, word-le, up_to-le}
 use Rattle.token.proofs.Tokens.{token-long, token-eof, token-text, Within, Kept, skipped-from, token-kept, text-kept}
 use Rattle.parser.proofs.Ahead.{valid-good}
@@ -64,9 +64,9 @@ up_to-same m (b ∷ r) z h =
 
 -- ---- tokens
 -- not ended by the input's end
-abbrev Found : Token → Bool
-Found (Token.Word t d) = true
-Found (Token.Refused e d) = not (eqb (number_of e) 1)
+abbrev Found : Reading Text → Bool
+Found (Ok (t, d)) = true
+Found (Err (e, d)) = not (eqb (number_of e) 1)
 
 values_same : (w x : List ℕ) → values_in w < length w → values_in (w ++ x) ≡ values_in w
 unfolding values_in
@@ -145,13 +145,13 @@ module _ (s z : List ℕ) where
       rw (drop-append-le t.start s z (omega (arith, w.inside)), take-append-le t.len (drop t.start s) z (omega (arith, w.inside, length-drop t.start s)))
 
   -- ---- plans
-  then-local : (c : Cursor) (f g : Text → Cursor → Next) (x y : Token) → Kept s c x → (Found x ≡ true → y ≡ x)
-      → ((t : Text) (d : Cursor) → Valid s d → Within s t → settled (f t d) ≡ true → g t d ≡ f t d)
-      → settled (and_then f x) ≡ true → and_then g y ≡ and_then f x
-  then-local c f g (Token.Word t d) y k e ih h = rw (e refl) (ih t d k.0.valid k.1 h)
-  then-local c f g (Token.Refused r d) y k e ih h = rw (e h)
+  then-local : (c : Cursor) (f g : Text → Cursor → Reading Command) (x y : Reading Text) → Kept s c x → (Found x ≡ true → y ≡ x)
+      → ((t : Text) (d : Cursor) → Valid s d → Within s t → settled (next_of (f t d)) ≡ true → g t d ≡ f t d)
+      → settled (next_of (and_then f x)) ≡ true → and_then g y ≡ and_then f x
+  then-local c f g (Ok (t, d)) y k e ih h = rw (e refl) (ih t d k.0.valid k.1 h)
+  then-local c f g (Err (r, d)) y k e ih h = rw (e h)
 
-  pub run-local : (p : Plan) (c : Cursor) → Valid s c → settled (run p s c) ≡ true → run p (s ++ z) c ≡ run p s c
+  pub run-local : (p : Plan) (c : Cursor) → Valid s c → settled (next_of (run p s c)) ≡ true → run p (s ++ z) c ≡ run p s c
   unfolding run
   run-local (answer k) c v h = refl
   run-local (begins k) c v h = refl
@@ -174,7 +174,7 @@ module _ (s z : List ℕ) where
       let there : d.place < length (s ++ z) = omega (arith, length-append s z) in
       let b : ℕ = get_or s d.place 0 in
       rw (get_or-append s z 0 d.place here, lt-ltb _ _ there, q)
-      (run-local (kind_plan (kind_of b)) (byte_read d b) (from_step s d b v here).valid (rw q at h)))
+      (ap next_of (run-local (kind_plan (kind_of b)) (byte_read d b) (from_step s d b v here).valid (rw q at h))))
       (λ q. absurd (false≢true (rw q at h)))
 
   -- an answer that is settled was found before the end

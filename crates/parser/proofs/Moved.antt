@@ -1,4 +1,9 @@
 -- A plan's texts lie in the input, and a plan asks for the same where the input stands after other bytes: once for every plan.
+use Rattle.std.specs.Prelude.{Option, Some, None, Result, Ok, Err}
+use Rattle.scope.specs.declared.VarType.{VarType}
+use Rattle.timescale.specs.declared.TimescaleUnit.{TimescaleUnit}
+use Rattle.scope.specs.declared.ScopeType.{ScopeType}
+use Rattle.idcode.specs.declared.InvalidIdCode.{InvalidIdCode}
 use Prim.Native.Nat.{ℕ, ◌+◌, ◌^◌}
 use mathlib.Core.Path.{◌≡◌, refl}
 use mathlib.Core.Bool.{Bool, true, false, cond}
@@ -9,7 +14,7 @@ use lib.Dec.{eqb, ltb}
 use lib.ListN.{length, drop, length-take}
 use lib.Seq.{drop-append-add}
 use Rattle.text.specs.Bytes.{bytes, equal, starts, up_to}
-use Rattle.command.specs.Words.{end_mark}
+use Rattle.command.specs.Words.{end_mark, word_of}
 use Rattle.text.specs.Texts.{part}
 use Rattle.utf8.specs.Utf8.{valid_utf8}
 use Rattle.text.specs.declared.Text.{Text}
@@ -17,32 +22,24 @@ use Rattle.text.proofs.Lists.{by-test}
 use Rattle.white_space.proofs.Trimming.{trimmed-within}
 use Rattle.number.specs.Decimal.{parse_below}
 use Rattle.real.specs.Real.{digits_in, is_real}
-use Rattle.number.specs.declared.Number.{Number}
 use Rattle.idcode.specs.Id.{parse_id}
 use Rattle.idcode.specs.declared.IdCode.{IdCode}
-use Rattle.idcode.specs.declared.Parsed.{Parsed}
 use Rattle.timescale.specs.Units.{parse_unit}
-use Rattle.timescale.specs.declared.ParsedUnit.{ParsedUnit}
 use Rattle.scope.specs.Types.{parse_scope_type, parse_var_type}
 use Rattle.scope.specs.Index.{parse_index}
-use Rattle.scope.specs.declared.ParsedScopeType.{ParsedScopeType}
 use Rattle.scope.specs.declared.Var.{Var}
-use Rattle.scope.specs.declared.ParsedVarType.{ParsedVarType}
-use Rattle.scope.specs.declared.ParsedIndex.{ParsedIndex}
 use Rattle.scope.specs.declared.ReferenceIndex.{ReferenceIndex}
 use Rattle.command.specs.Meaning.{Remark, comment, date, version}
 use Rattle.command.specs.declared.Command.{Command}
-use Rattle.command.specs.declared.Open.{Open}
 use Rattle.command.specs.declared.Refusal.{Refusal}
 use Rattle.command.specs.declared.SimulationCommand.{SimulationCommand}
-use Rattle.token.specs.Read.{Bound, most, values, unlimited, passed, Valid, byte_read, end_read, after, rest, gap, word, skipped, word_token, word_here, token, text_to, text_from}
+use Rattle.token.specs.Read.{Reading, Bound, most, values, unlimited, passed, Valid, byte_read, end_read, after, rest, gap, word, skipped, word_token, word_here, token, text_to, text_from}
 use Rattle.token.specs.declared.Cursor.{Cursor}
-use Rattle.token.specs.declared.Token.{Token}
 use Rattle.token.proofs.Tokens.{Within, Kept, token-kept, text-kept}
 use Rattle.parser_part.specs.Plan.{Plan, answer, begins, ends, refuse, a_token, a_text, and_then, ended, run, an_id, numbered, identified, closing, last_of, trimmed_in, remark_of, remark, is_ascii, in_unit, scaled, unit_in, timescale, scope_of, var_def, indexed, var_end, var_of, word_plan, kind_plan}
-use Rattle.command.specs.Words.{word_of}
 use Rattle.parser_part.specs.declared.Kind.{Kind}
-use Rattle.parser_part.specs.declared.Next.{Next}
+use Rattle.parser.specs.Next.{next_of}
+use Rattle.parser.specs.declared.Next.{Next}
 use Rattle.command.specs.declared.Word.{Word}
 
 -- ---- n bytes and l lines further on
@@ -69,9 +66,9 @@ moved_command n (Command.End k) = Command.End k
 abbrev pub moved : ℕ → ℕ → Cursor → Cursor
 moved n l c = record { place = n + c.place; line = l + c.line; pending = c.pending; sim = c.sim }
 
-abbrev moved_token : ℕ → ℕ → Token → Token
-moved_token n l (Token.Word t d) = Token.Word (moved_text n t) (moved n l d)
-moved_token n l (Token.Refused e d) = Token.Refused e (moved n l d)
+abbrev moved_token : ℕ → ℕ → Reading Text → Reading Text
+moved_token n l (Ok (t, d)) = Ok (moved_text n t, moved n l d)
+moved_token n l (Err (e, d)) = Err (e, moved n l d)
 
 abbrev pub moved_next : ℕ → ℕ → Next → Next
 moved_next n l (Next.Command k d) = Next.Command (moved_command n k) (moved n l d)
@@ -122,13 +119,13 @@ module _ (n : ℕ) (s : List ℕ) where
   judged : (w : List ℕ) {p q : Plan} → Same p q → Same (cond (valid_utf8 w) p (refuse Refusal.InvalidUtf8)) (cond (valid_utf8 w) q (refuse Refusal.InvalidUtf8))
   judged w m = tested (valid_utf8 w) m (refuses _)
 
-  counted : (x : Number) {f g : ℕ → Plan} → ((v : ℕ) → Same (f v) (g v)) → Same (numbered x f) (numbered x g)
-  counted (Number.Is v) h = h v
-  counted Number.Refused h = refuses _
+  counted : (x : Option ℕ) {f g : ℕ → Plan} → ((v : ℕ) → Same (f v) (g v)) → Same (numbered x f) (numbered x g)
+  counted (Some v) h = h v
+  counted None h = refuses _
 
-  named : (x : Parsed) {f g : IdCode → Plan} → ((i : IdCode) → Same (f i) (g i)) → Same (identified x f) (identified x g)
-  named (Parsed.Code i) h = h i
-  named (Parsed.Refused e) h = refuses _
+  named : (x : Result IdCode InvalidIdCode) {f g : IdCode → Plan} → ((i : IdCode) → Same (f i) (g i)) → Same (identified x f) (identified x g)
+  named (Ok i) h = h i
+  named (Err e) h = refuses _
 
   id_same : {f g : IdCode → Plan} → ((i : IdCode) → Same (f i) (g i)) → Same (an_id f) (an_id g)
   id_same h = tokens (most 32) (λ t w. judged (part s t) (named (parse_id (part s t)) h))
@@ -148,9 +145,9 @@ module _ (n : ℕ) (s : List ℕ) where
   remark-same : (r : Remark) → Same (remark r) (remark r)
   remark-same r = texts (λ t w. judged (part s t) (remark-answer r t w))
 
-  in-unit : (q : ℕ) (u : ParsedUnit) → Same (in_unit q u) (in_unit q u)
-  in-unit q (ParsedUnit.Is u) = closing_same (Command.Timescale q u) tt
-  in-unit q ParsedUnit.Invalid = refuses _
+  in-unit : (q : ℕ) (u : Option TimescaleUnit) → Same (in_unit q u) (in_unit q u)
+  in-unit q (Some u) = closing_same (Command.Timescale q u) tt
+  in-unit q None = refuses _
 
   scaled-same : (q u : List ℕ) → Same (scaled q u) (scaled q u)
   scaled-same q u = counted (parse_below (2 ^ 32) q) (λ v. in-unit v (parse_unit u))
@@ -162,28 +159,28 @@ module _ (n : ℕ) (s : List ℕ) where
   timescale-same : Same timescale timescale
   timescale-same = tokens (most 8) (λ t w. judged (part s t) (tested (is_ascii (part s t)) (unit-same (digits_in (part s t)) (drop (length (digits_in (part s t))) (part s t))) (refuses _)))
 
-  scope-of : (k : ParsedScopeType) → Same (scope_of k) (scope_of k)
-  scope-of (ParsedScopeType.Is k) = tokens unlimited (λ t w. judged (part s t) (closing_same (Command.ScopeDef k t) w))
-  scope-of ParsedScopeType.Invalid = refuses _
+  scope-of : (k : Option ScopeType) → Same (scope_of k) (scope_of k)
+  scope-of (Some k) = tokens unlimited (λ t w. judged (part s t) (closing_same (Command.ScopeDef k t) w))
+  scope-of None = refuses _
 
   -- a variable whose name is n bytes further on
   abbrev further : Var → Var
   further v = record { var_type = v.var_type; size = v.size; code = v.code; reference = moved_text n v.reference; index = v.index }
 
-  indexed-same : (v : Var) → Within s v.reference → (x : ParsedIndex) → Same (indexed v x) (indexed (further v) x)
-  indexed-same v i (ParsedIndex.Is x) = tokens (most 32) (λ t w. judged (part s t) (last-same (var_def v x) i (part s t)))
-  indexed-same v i ParsedIndex.Invalid = refuses _
+  indexed-same : (v : Var) → Within s v.reference → (x : Option ReferenceIndex) → Same (indexed v x) (indexed (further v) x)
+  indexed-same v i (Some x) = tokens (most 32) (λ t w. judged (part s t) (last-same (var_def v x) i (part s t)))
+  indexed-same v i None = refuses _
 
   var-end : (v : Var) → Within s v.reference → Same (var_end v) (var_end (further v))
   var-end v i =
       tokens (most 32)
       (λ t w. judged (part s t) (tested (starts (bytes "[") (part s t)) (indexed-same v i (parse_index (part s t))) (last-same (var_def v ReferenceIndex.None) i (part s t))))
 
-  var-of : (k : ParsedVarType) → Same (var_of k) (var_of k)
-  var-of (ParsedVarType.Is k) =
+  var-of : (k : Option VarType) → Same (var_of k) (var_of k)
+  var-of (Some k) =
       tokens (most 32)
       (λ t w. judged (part s t) (counted (parse_below (2 ^ 32) (part s t)) (λ v. id_same (λ i. tokens unlimited (λ r u. judged (part s r) (var-end (record { var_type = k; size = v; code = i; reference = r; index = ReferenceIndex.None }) u))))))
-  var-of ParsedVarType.Invalid = refuses _
+  var-of None = refuses _
 
   word_same : (w : Word) → Same (word_plan w) (word_plan w)
   word_same Word.Comment = remark-same comment
@@ -213,16 +210,16 @@ Told s (Next.Command k d) = Inside s k
 Told s (Next.Refused e m d) = m ≡ d.line
 Told s (Next.Done d) = ⊥
 
-then-told : (s : List ℕ) (c : Cursor) (f : Text → Cursor → Next) (k : Token) → Kept s c k → ((t : Text) (d : Cursor) → Valid s d → Within s t → Told s (f t d))
-    → Told s (and_then f k)
-then-told s c f (Token.Word t d) k h = h t d k.0.valid k.1
-then-told s c f (Token.Refused e d) k h = refl
+then-told : (s : List ℕ) (c : Cursor) (f : Text → Cursor → Reading Command) (k : Reading Text) → Kept s c k → ((t : Text) (d : Cursor) → Valid s d → Within s t → Told s (next_of (f t d)))
+    → Told s (next_of (and_then f k))
+then-told s c f (Ok (t, d)) k h = h t d k.0.valid k.1
+then-told s c f (Err (e, d)) k h = refl
 
-ended-told : (o : Open) (s : List ℕ) (c : Cursor) → Told s (ended o c)
-ended-told Open.None s c = refl
-ended-told (Open.Of k) s c = tt
+ended-told : (o : Option SimulationCommand) (s : List ℕ) (c : Cursor) → Told s (next_of (ended o c))
+ended-told None s c = refl
+ended-told (Some k) s c = tt
 
-pub run-told : {n : ℕ} {s : List ℕ} {p q : Plan} → Moves n s p q → (c : Cursor) → Valid s c → Told s (run p s c)
+pub run-told : {n : ℕ} {s : List ℕ} {p q : Plan} → Moves n s p q → (c : Cursor) → Valid s c → Told s (next_of (run p s c))
 unfolding run
 run-told (answers k i) c v = i
 run-told (begin k) c v = tt
@@ -278,17 +275,18 @@ module _ (pre s : List ℕ) (l : ℕ) where
       (λ e. rw (rest-moved c, e, after-moved x c, after-moved end_mark))
       (λ e. rw (rest-moved c, e, after-moved x c, end_moved))
 
-  ended-moved : (o : Open) (c : Cursor) → ended o (far c) ≡ moved_next (length pre) l (ended o c)
-  ended-moved Open.None c = refl
-  ended-moved (Open.Of k) c = refl
+  ended-moved : (o : Option SimulationCommand) (c : Cursor) → next_of (ended o (far c)) ≡ moved_next (length pre) l (next_of (ended o c))
+  ended-moved None c = refl
+  ended-moved (Some k) c = refl
 
-  then-moved : (c : Cursor) (f g : Text → Cursor → Next) (k : Token) → Kept s c k
-      → ((t : Text) (d : Cursor) → Valid s d → Within s t → g (moved_text (length pre) t) (far d) ≡ moved_next (length pre) l (f t d))
-      → and_then g (moved_token (length pre) l k) ≡ moved_next (length pre) l (and_then f k)
-  then-moved c f g (Token.Word t d) k h = h t d k.0.valid k.1
-  then-moved c f g (Token.Refused e d) k h = refl
+  then-moved : (c : Cursor) (f g : Text → Cursor → Reading Command) (k : Reading Text) → Kept s c k
+      → ((t : Text) (d : Cursor) → Valid s d → Within s t → next_of (g (moved_text (length pre) t) (far d)) ≡ moved_next (length pre) l (next_of (f t d)))
+      → next_of (and_then g (moved_token (length pre) l k)) ≡ moved_next (length pre) l (next_of (and_then f k))
+  then-moved c f g (Ok (t, d)) k h = h t d k.0.valid k.1
+  then-moved c f g (Err (e, d)) k h = refl
 
-  pub run_moved : {p q : Plan} → Moves (length pre) s p q → (c : Cursor) → Valid s c → run q (pre ++ s) (far c) ≡ moved_next (length pre) l (run p s c)
+  pub run_moved : {p q : Plan} → Moves (length pre) s p q → (c : Cursor) → Valid s c
+      → next_of (run q (pre ++ s) (far c)) ≡ moved_next (length pre) l (next_of (run p s c))
   unfolding run
   run_moved (answers k i) c v = refl
   run_moved (begin k) c v = refl

@@ -1,4 +1,8 @@
 -- What every plan holds to: the numbers of a command that is read are of their types, and a refusal is one of reading. Assumes nothing.
+use Rattle.std.specs.Prelude.{Option, Some, None, Result, Ok, Err}
+use Rattle.scope.specs.declared.VarType.{VarType}
+use Rattle.timescale.specs.declared.TimescaleUnit.{TimescaleUnit}
+use Rattle.scope.specs.declared.ScopeType.{ScopeType}
 use Prim.Native.Nat.{ℕ, ◌-◌, ◌^◌, ◌≤◌, ◌<◌}
 use mathlib.Core.Path.{◌≡◌, refl}
 use mathlib.Core.Bool.{Bool, true, false, cond}
@@ -10,46 +14,36 @@ use lib.Dec.{eqb, ltb, leb}
 use lib.ListN.{length, drop, get_or, length-take, length-drop}
 use lib.Seq.{get_or-drop}
 use Rattle.text.specs.Bytes.{bytes, equal, starts, is_blank, up_to}
-use Rattle.command.specs.Words.{end_mark}
+use Rattle.command.specs.Words.{end_mark, word_of}
 use Rattle.text.specs.Texts.{limit, part}
 use Rattle.utf8.specs.Utf8.{valid_utf8}
 use Rattle.text.specs.declared.Text.{Text}
 use Rattle.text.proofs.Lists.{by-test}
 use Rattle.number.specs.Decimal.{parse_below, Below}
 use Rattle.real.specs.Real.{digits_in, is_real}
-use Rattle.number.specs.declared.Number.{Number}
 use Rattle.number.proofs.Laws.{parse-below}
 use Rattle.idcode.specs.Id.{parse_id, all_id, id_tail, id_sum}
 use Rattle.idcode.specs.declared.IdCode.{IdCode}
 use Rattle.idcode.specs.declared.InvalidIdCode.{InvalidIdCode}
-use Rattle.idcode.specs.declared.Parsed.{Parsed}
 use Rattle.idcode.proofs.Pairing.{id_below}
 use Rattle.timescale.specs.Units.{parse_unit}
-use Rattle.timescale.specs.declared.ParsedUnit.{ParsedUnit}
 use Rattle.scope.specs.Types.{parse_scope_type, parse_var_type}
-use Rattle.scope.specs.Index.{parse_index}
-use Rattle.scope.specs.declared.ParsedScopeType.{ParsedScopeType}
-use Rattle.scope.specs.declared.ParsedVarType.{ParsedVarType}
-use Rattle.scope.specs.declared.ParsedIndex.{ParsedIndex}
+use Rattle.scope.specs.Index.{parse_index, SizedIndex}
 use Rattle.scope.specs.declared.ReferenceIndex.{ReferenceIndex}
 use Rattle.scope.specs.declared.Var.{Var}
-use Rattle.scope.specs.Index.{SizedIndex}
 use Rattle.scope.proofs.Indexes.{index_read}
 use Rattle.command.specs.Meaning.{Remark, comment, date, version}
 use Rattle.command.specs.declared.Command.{Command}
-use Rattle.command.specs.declared.Open.{Open}
 use Rattle.command.specs.declared.Refusal.{Refusal}
 use Rattle.command.specs.declared.SimulationCommand.{SimulationCommand}
-use Rattle.token.specs.Read.{Bound, most, values, unlimited, passed, beyond, rest, word, skipped, word_token, word_here, token, text_to, text_from}
+use Rattle.token.specs.Read.{Reading, Bound, most, values, unlimited, passed, beyond, rest, word, skipped, word_token, word_here, token, text_to, text_from}
 use Rattle.token.proofs.Reading.{word-le, skip_first}
 use Rattle.token.specs.declared.Cursor.{Cursor}
-use Rattle.token.specs.declared.Token.{Token}
 use Rattle.parser_part.specs.Plan.{Plan, answer, begins, ends, refuse, a_token, a_text, and_then, ended, run, an_id, numbered, identified, closing, trimmed_in, remark, is_ascii, in_unit, scaled, unit_in, timescale, scope_of, var_def, last_of, indexed, var_end, var_of, word_plan, kind_of, kind_plan}
-use Rattle.command.specs.Words.{word_of}
-use Rattle.parser.specs.Next.{is_good, found, next_from}
+use Rattle.parser.specs.Next.{is_good, next_of, found, next_from}
 use Rattle.parser.specs.Refusals.{is_of_reading}
 use Rattle.parser_part.specs.declared.Kind.{Kind}
-use Rattle.parser_part.specs.declared.Next.{Next}
+use Rattle.parser.specs.declared.Next.{Next}
 use Rattle.command.specs.declared.Word.{Word}
 
 -- its numbers are of their types: times and ids of 64 bits, the others of 32
@@ -106,13 +100,13 @@ ranged (Command.Begin k) z = tt
 ranged (Command.End k) z = tt
 
 -- an id text that is not empty is not refused as one
-id-some : (w : List ℕ) → 0 < length w → parse_id w ≡ Parsed.Refused InvalidIdCode.Empty → ⊥
+id-some : (w : List ℕ) → 0 < length w → parse_id w ≡ Err InvalidIdCode.Empty → ⊥
 unfolding parse_id
 id-some [] h e = omega arith
 id-some (b ∷ w) h e = go (leb (2 ^ 64) (id_sum (id_tail (b ∷ w)))) (all_id (b ∷ w)) (record { 0 = id_sum (b ∷ w) - 1 }) e
   where
     go : (long sound : Bool) (i : IdCode)
-        → cond long (Parsed.Refused InvalidIdCode.TooLong) (cond sound (Parsed.Code i) (Parsed.Refused InvalidIdCode.InvalidChars)) ≡ Parsed.Refused InvalidIdCode.Empty → ⊥
+        → cond long (Err InvalidIdCode.TooLong) (cond sound (Ok i) (Err InvalidIdCode.InvalidChars)) ≡ Err InvalidIdCode.Empty → ⊥
     go true sound i q = let z : ◌≡◌ {A = ℕ} 0 1 = cc in omega arith
     go false true i q = let z : ◌≡◌ {A = ℕ} 0 1 = cc in omega arith
     go false false i q = let z : ◌≡◌ {A = ℕ} 0 1 = cc in omega arith
@@ -133,16 +127,16 @@ tested false m o = o
 judged : (w : List ℕ) {p : Plan} → AllTyped p → AllTyped (cond (valid_utf8 w) p (refuse Refusal.InvalidUtf8))
 judged w m = tested (valid_utf8 w) m (refuses _ refl)
 
-counted : (limit : ℕ) (n : Number) {f : ℕ → Plan} → Below limit n → ((v : ℕ) → v < limit → AllTyped (f v)) → AllTyped (numbered n f)
-counted limit (Number.Is v) b h = h v b
-counted limit Number.Refused b h = refuses _ refl
+counted : (limit : ℕ) (n : Option ℕ) {f : ℕ → Plan} → Below limit n → ((v : ℕ) → v < limit → AllTyped (f v)) → AllTyped (numbered n f)
+counted limit (Some v) b h = h v b
+counted limit None b h = refuses _ refl
 
-id-typed : {f : IdCode → Plan} → ((i : IdCode) → i.0 < 2 ^ 64 → AllTyped (f i)) → (w : List ℕ) → 0 < length w → (x : Parsed) → parse_id w ≡ x
+id-typed : {f : IdCode → Plan} → ((i : IdCode) → i.0 < 2 ^ 64 → AllTyped (f i)) → (w : List ℕ) → 0 < length w → (x : Result IdCode InvalidIdCode) → parse_id w ≡ x
     → AllTyped (identified x f)
-id-typed h w some (Parsed.Code i) e = h i (omega (arith, id_below w i e))
-id-typed h w some (Parsed.Refused InvalidIdCode.Empty) q = absurd (id-some w some q)
-id-typed h w some (Parsed.Refused InvalidIdCode.InvalidChars) q = refuses _ refl
-id-typed h w some (Parsed.Refused InvalidIdCode.TooLong) q = refuses _ refl
+id-typed h w some (Ok i) e = h i (omega (arith, id_below w i e))
+id-typed h w some (Err InvalidIdCode.Empty) q = absurd (id-some w some q)
+id-typed h w some (Err InvalidIdCode.InvalidChars) q = refuses _ refl
+id-typed h w some (Err InvalidIdCode.TooLong) q = refuses _ refl
 
 an-id : {f : IdCode → Plan} → ((i : IdCode) → i.0 < 2 ^ 64 → AllTyped (f i)) → AllTyped (an_id f)
 an-id h = tokens (most 32) (λ t w some. judged w (id-typed h w some (parse_id w) refl))
@@ -158,9 +152,9 @@ remark-typed comment = texts (λ t w. judged w (answers (Command.Comment (trimme
 remark-typed date = texts (λ t w. judged w (answers (Command.Date (trimmed_in t w)) tt))
 remark-typed version = texts (λ t w. judged w (answers (Command.Version (trimmed_in t w)) tt))
 
-in-unit : (q : ℕ) → q < 2 ^ 32 → (u : ParsedUnit) → AllTyped (in_unit q u)
-in-unit q b (ParsedUnit.Is u) = closing-typed (Command.Timescale q u) b
-in-unit q b ParsedUnit.Invalid = refuses _ refl
+in-unit : (q : ℕ) → q < 2 ^ 32 → (u : Option TimescaleUnit) → AllTyped (in_unit q u)
+in-unit q b (Some u) = closing-typed (Command.Timescale q u) b
+in-unit q b None = refuses _ refl
 
 scaled-typed : (q u : List ℕ) → AllTyped (scaled q u)
 scaled-typed q u = counted (2 ^ 32) (parse_below (2 ^ 32) q) (parse-below (2 ^ 32) q) (λ v b. in-unit v b (parse_unit u))
@@ -173,24 +167,24 @@ timescale-typed : AllTyped timescale
 timescale-typed =
     tokens (most 8) (λ t w some. judged w (tested (is_ascii w) (unit-typed (digits_in w) (drop (length (digits_in w)) w)) (refuses _ refl)))
 
-scope-typed : (k : ParsedScopeType) → AllTyped (scope_of k)
-scope-typed (ParsedScopeType.Is k) = tokens unlimited (λ t w some. judged w (closing-typed (Command.ScopeDef k t) tt))
-scope-typed ParsedScopeType.Invalid = refuses _ refl
+scope-typed : (k : Option ScopeType) → AllTyped (scope_of k)
+scope-typed (Some k) = tokens unlimited (λ t w some. judged w (closing-typed (Command.ScopeDef k t) tt))
+scope-typed None = refuses _ refl
 
-indexed-typed : (v : Var) → v.size < 2 ^ 32 → v.code.0 < 2 ^ 64 → (w : List ℕ) (x : ParsedIndex) → parse_index w ≡ x → AllTyped (indexed v x)
-indexed-typed v b i w (ParsedIndex.Is x) e = tokens (most 32) (λ t u some. judged u (last (var_def v x) (b, i, (index_read x w e).1) u))
-indexed-typed v b i w ParsedIndex.Invalid e = refuses _ refl
+indexed-typed : (v : Var) → v.size < 2 ^ 32 → v.code.0 < 2 ^ 64 → (w : List ℕ) (x : Option ReferenceIndex) → parse_index w ≡ x → AllTyped (indexed v x)
+indexed-typed v b i w (Some x) e = tokens (most 32) (λ t u some. judged u (last (var_def v x) (b, i, (index_read x w e).1) u))
+indexed-typed v b i w None e = refuses _ refl
 
 var-end : (v : Var) → v.size < 2 ^ 32 → v.code.0 < 2 ^ 64 → AllTyped (var_end v)
 var-end v b i =
     tokens (most 32)
     (λ t w some. judged w (tested (starts (bytes "[") w) (indexed-typed v b i w (parse_index w) refl) (last (var_def v ReferenceIndex.None) (b, i, tt) w)))
 
-var-typed : (k : ParsedVarType) → AllTyped (var_of k)
-var-typed (ParsedVarType.Is k) =
+var-typed : (k : Option VarType) → AllTyped (var_of k)
+var-typed (Some k) =
     tokens (most 32)
     (λ t w some. judged w (counted (2 ^ 32) (parse_below (2 ^ 32) w) (parse-below (2 ^ 32) w) (λ v b. an-id (λ i y. tokens unlimited (λ r u some. judged u (var-end (record { var_type = k; size = v; code = i; reference = r; index = ReferenceIndex.None }) b y))))))
-var-typed ParsedVarType.Invalid = refuses _ refl
+var-typed None = refuses _ refl
 
 word_typed : (w : Word) → AllTyped (word_plan w)
 word_typed Word.Comment = remark-typed comment
@@ -221,9 +215,9 @@ Tells (Next.Refused e m d) = is_of_reading e ≡ true
 Tells (Next.Done d) = Unit {0}
 
 -- of a token: its text, which is P, or a refusal of reading
-abbrev TellsToken : (Text → Type 0) → Token → Type 0
-TellsToken P (Token.Word t d) = P t
-TellsToken P (Token.Refused e d) = is_of_reading e ≡ true
+abbrev TellsToken : (Text → Type 0) → Reading Text → Type 0
+TellsToken P (Ok (t, d)) = P t
+TellsToken P (Err (e, d)) = is_of_reading e ≡ true
 
 beyond-reading : (b : Bound) → is_of_reading (beyond b) ≡ true
 beyond-reading (most n) = refl
@@ -262,15 +256,16 @@ text-tells s c =
     let l : List ℕ = up_to end_mark (rest s c) in
     by-test (starts end_mark (drop (length l) (rest s c))) (λ e. rw e tt) (λ e. rw e refl)
 
-then-tells : (P : Text → Type 0) (f : Text → Cursor → Next) (k : Token) → TellsToken P k → ((t : Text) (d : Cursor) → P t → Tells (f t d)) → Tells (and_then f k)
-then-tells P f (Token.Word t d) x h = h t d x
-then-tells P f (Token.Refused e d) x h = x
+then-tells : (P : Text → Type 0) (f : Text → Cursor → Reading Command) (k : Reading Text) → TellsToken P k → ((t : Text) (d : Cursor) → P t → Tells (next_of (f t d)))
+    → Tells (next_of (and_then f k))
+then-tells P f (Ok (t, d)) x h = h t d x
+then-tells P f (Err (e, d)) x h = x
 
-ended-tells : (o : Open) (c : Cursor) → Tells (ended o c)
-ended-tells Open.None c = refl
-ended-tells (Open.Of k) c = tt
+ended-tells : (o : Option SimulationCommand) (c : Cursor) → Tells (next_of (ended o c))
+ended-tells None c = refl
+ended-tells (Some k) c = tt
 
-run-tells : (s : List ℕ) {p : Plan} → AllTyped p → (c : Cursor) → Tells (run p s c)
+run-tells : (s : List ℕ) {p : Plan} → AllTyped p → (c : Cursor) → Tells (next_of (run p s c))
 unfolding run
 run-tells s (answers k i) c = i
 run-tells s (begin k) c = tt

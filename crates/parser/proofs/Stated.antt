@@ -14,9 +14,9 @@ use Rattle.token.specs.Read.{Valid, byte_read, end_read, skipped}
 use Rattle.token.specs.declared.Cursor.{Cursor}
 use Rattle.token.proofs.Reading.{valid-step}
 use Rattle.token.proofs.Tokens.{skipped-valid}
-use Rattle.parser_part.specs.Plan.{refused, run, kind_of, kind_plan}
-use Rattle.parser.specs.Next.{is_good, found, next_from}
-use Rattle.parser_part.specs.declared.Next.{Next}
+use Rattle.parser_part.specs.Plan.{run, kind_of, kind_plan}
+use Rattle.parser.specs.Next.{is_good, next_of, found, next_from}
+use Rattle.parser.specs.declared.Next.{Next}
 use Rattle.parser.proofs.Ahead.{good-valid, valid-good, Past, next_past, command-past}
 use Rattle.parser.proofs.Moved.{moved, moved_next, Inside, Told, kind-same, run-told, byte-moved, end_moved, skipped-moved, run_moved}
 use Rattle.text.specs.Texts.{limit}
@@ -45,7 +45,7 @@ past-valid s c (Next.Refused e n d) h = (h.valid, h.ahead)
 past-valid s c (Next.Done d) h = (h.valid, h.ahead)
 
 -- ---- from a cursor that is not good, and from a good one: the command that begins at the first byte, or the end
-by-good : (s : List ℕ) (c : Cursor) (P : Next → Type 0) → (Valid s c → P (next_from s c)) → P (refused Refusal.BadPlace c) → P (next_from s c)
+by-good : (s : List ℕ) (c : Cursor) (P : Next → Type 0) → (Valid s c → P (next_from s c)) → P (Next.Refused Refusal.BadPlace c.line c) → P (next_from s c)
 unfolding next_from
 by-good s c P p q = by-test (is_good s c) (λ e. p (good-valid s c e)) (λ e. rw e q)
 
@@ -58,7 +58,7 @@ module _ (s : List ℕ) (c : Cursor) (v : Valid s c) where
 
   -- what the first byte asks for
   abbrev asked : Next
-  asked = run (kind_plan (kind_of first)) s (byte_read from first)
+  asked = next_of (run (kind_plan (kind_of first)) s (byte_read from first))
 
   next-first : from.place < length s → next_from s c ≡ asked
   unfolding next_from found
@@ -86,8 +86,8 @@ module _ (s : List ℕ) (c : Cursor) (v : Valid s c) where
 
 module _ (s : List ℕ) (c : Cursor) where
   -- a cursor that may not stand in the input is refused, and handed back
-  pub next-bad : (Valid s c → ⊥) → next_from s c ≡ refused Refusal.BadPlace c
-  next-bad h = by-good s c (λ k. k ≡ refused Refusal.BadPlace c) (λ v. absurd (h v)) refl
+  pub next-bad : (Valid s c → ⊥) → next_from s c ≡ Next.Refused Refusal.BadPlace c.line c
+  next-bad h = by-good s c (λ k. k ≡ Next.Refused Refusal.BadPlace c.line c) (λ v. absurd (h v)) refl
 
   -- no answer's cursor is before c, and a command's is past it
   pub next-ahead : c.place ≤ (cursor_of (next_from s c)).place

@@ -5,7 +5,7 @@ use Rattle.command.specs.declared.Command.{Command}
 use Rattle.command.specs.declared.Refusal.{Refusal}
 use Rattle.parser.specs.Next.{next_from}
 use Rattle.token.specs.declared.Cursor.{Cursor}
-use Rattle.parser_part.specs.declared.Next.{Next}
+use Rattle.parser.specs.declared.Next.{Next}
 
 -- the commands in order, each with the cursor after it, then how reading stops
 pub data Commands : Type 0 where

@@ -6,11 +6,18 @@ ghost use Rattle.token.specs.Read.{Valid};
 ghost use Rattle.parser_part.specs.Plan.{run, dollar, word_plan, kind_of, kind_plan, ended as ended_of, with_open};
 ghost use Rattle.parser.specs.Next.{is_good, next_from, fresh as fresh_cursor};
 
-use command::{Command, Open, Refusal, Word};
+use command::{Command, Refusal, SimulationCommand, Word};
 use parser_part::Kind;
-pub use parser_part::Next;
-use token::{Cursor, Token};
+use token::{Cursor, Reading};
 use value::Value;
+
+// A command and the cursor after it; a refusal, its line, and the cursor just after the last byte read; or the end.
+#[derive(Clone, Copy)]
+pub enum Next {
+    Command(Command, Cursor),
+    Refused(Refusal, u64, Cursor),
+    Done(Cursor),
+}
 
 // The cursor before the first byte.
 pub fn start() -> Cursor
@@ -20,7 +27,7 @@ pub fn start() -> Cursor
         place: 0,
         line: 1,
         pending: false,
-        sim: Open::None,
+        sim: None,
     }
 }
 
@@ -28,21 +35,24 @@ pub fn start() -> Cursor
 pub fn next_command(input: &[u8], c: Cursor) -> Next
     ensures { result ≡ next_from input.now c }
 {
-    if placed(input, c) {
-        let from = token::skip(input, c);
-        let at = from.place;
-        if input.len() <= at {
-            return Next::Done(token::end_read(from));
-        }
-        let b = input[at];
-        // A byte after the blanks is no newline, so none is pending.
-        chosen(input, token::word_end_read(from, at + 1), kind_of(b))
-    } else {
-        Next::Refused(Refusal::BadPlace, c.line, c)
+    if !placed(input, c) {
+        return Next::Refused(Refusal::BadPlace, c.line, c);
+    }
+    let from = token::skip(input, c);
+    let at = from.place;
+    if input.len() <= at {
+        return Next::Done(token::end_read(from));
+    }
+    let b = input[at];
+    // A byte after the blanks is no newline, so none is pending.
+    match chosen(input, token::word_end_read(from, at + 1), kind_of(b)) {
+        Ok((k, next)) => Next::Command(k, next),
+        Err((e, next)) => Next::Refused(e, next.line, next),
     }
 }
 
 // May the cursor stand in the input?
+#[tactic(auto, unfolding(crate::specs::Next::is_good))]
 pub fn placed(input: &[u8], c: Cursor) -> bool
     ensures { result ≡ is_good input.now c }
 {
@@ -63,6 +73,7 @@ pub fn placed(input: &[u8], c: Cursor) -> bool
     }
 }
 
+#[tactic(auto, unfolding(parser_part::specs::Plan::kind_of, text::specs::Bytes::has))]
 fn kind_of(b: u8) -> Kind
     ensures { result ≡ kind_of b }
 {
@@ -81,7 +92,8 @@ fn kind_of(b: u8) -> Kind
 }
 
 // What the first byte asks for.
-fn chosen(input: &[u8], c: Cursor, k: Kind) -> Next
+#[tactic(auto, using(parser_part::proofs::Parts::parts))]
+fn chosen(input: &[u8], c: Cursor, k: Kind) -> Reading<Command>
     requires { Valid input.now c }
     ensures { result ≡ run (kind_plan k) input.now c }
 {
@@ -92,23 +104,22 @@ fn chosen(input: &[u8], c: Cursor, k: Kind) -> Next
         Kind::Vector => parser_change::parse_vector(input, c),
         Kind::Real => parser_change::parse_real(input, c),
         Kind::Text => parser_change::parse_string(input, c),
-        Kind::Other => Next::Refused(Refusal::UnexpectedCharacter, c.line, c),
+        Kind::Other => Err((Refusal::UnexpectedCharacter, c)),
     }
 }
 
 // The word after `$`, and what it asks for.
-fn parse_command(input: &[u8], c: Cursor) -> Next
+#[tactic(auto, using(parser_part::proofs::Parts::parts))]
+fn parse_command(input: &[u8], c: Cursor) -> Reading<Command>
     requires { Valid input.now c }
     ensures { result ≡ run dollar input.now c }
 {
-    let tok = token::read_token(input, c, 16);
-    match tok {
-        Token::Word(t, next) => act(input, next, Word::from_str(text::part(input, t))),
-        Token::Refused(e, next) => Next::Refused(e, next.line, next),
-    }
+    let (t, next) = token::read_token(input, c, 16)?;
+    act(input, next, Word::from_str(text::part(input, t)))
 }
 
-fn act(input: &[u8], c: Cursor, w: Word) -> Next
+#[tactic(auto, using(parser_part::proofs::Parts::parts))]
+fn act(input: &[u8], c: Cursor, w: Word) -> Reading<Command>
     requires { Valid input.now c }
     ensures { result ≡ run (word_plan w) input.now c }
 {
@@ -121,30 +132,22 @@ fn act(input: &[u8], c: Cursor, w: Word) -> Next
         Word::Upscope => parser_part::read_command_end(input, c, Command::Upscope),
         Word::Var => parser_declare::read_var(input, c),
         Word::Enddefinitions => parser_part::read_command_end(input, c, Command::Enddefinitions),
-        Word::Begin(k) => Next::Command(Command::Begin(k), with_open(c, Open::Of(k))),
+        Word::Begin(k) => Ok((Command::Begin(k), with_open(c, Some(k)))),
         Word::End => ended(c),
-        Word::Unknown => Next::Refused(Refusal::UnknownCommand, c.line, c),
+        Word::Unknown => Err((Refusal::UnknownCommand, c)),
     }
 }
 
-fn with_open(c: Cursor, o: Open) -> Cursor
-    ensures { result ≡ with_open c o }
+fn with_open(c: Cursor, sim: Option<SimulationCommand>) -> Cursor
+    ensures { result ≡ with_open c sim }
 {
-    Cursor {
-        place: c.place,
-        line: c.line,
-        pending: c.pending,
-        sim: o,
-    }
+    Cursor { sim, ..c }
 }
 
 // `$end` closes the open simulation command.
-fn ended(c: Cursor) -> Next
+fn ended(c: Cursor) -> Reading<Command>
     ensures { result ≡ ended_of c.sim c }
 {
-    let o = c.sim;
-    match o {
-        Open::None => Next::Refused(Refusal::UnmatchedEnd, c.line, c),
-        Open::Of(k) => Next::Command(Command::End(k), with_open(c, Open::None)),
-    }
+    let k = c.sim.ok_or((Refusal::UnmatchedEnd, c))?;
+    Ok((Command::End(k), with_open(c, None)))
 }

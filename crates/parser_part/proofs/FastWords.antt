@@ -1,5 +1,5 @@
 -- Laws of the fast path over words: bytes of a word that are passed one by one, and what holds at its end. Assumes nothing.
-use Rattle.std.proofs.Common.{◌≡◌, ℕ, suc, ◌+◌, ◌-◌, ◌*◌, ◌^◌, ◌<◌, ◌≤◌, true, cond, List, [], ◌∷◌, length, get_or, drop, sym, refl, ap, ◌∙◌, add-zero, mul-le-mul_right, mul_assoc, mul_comm, pow-suc, mul-zero, mul-add, arith}
+use Rattle.std.proofs.Common.{◌≡◌, ℕ, suc, ◌+◌, ◌-◌, ◌*◌, ◌^◌, ◌<◌, ◌≤◌, true, cond, List, [], ◌∷◌, length, get_or, drop, sym, refl, ap, ◌∙◌, add-zero, mul-le-mul_right, mul_assoc, mul_comm, pow-suc, mul-zero, mul-add, arith, Some, None, Ok}
 use native.Mathlib.Nat.{pow-le-pow_right}
 use borrow.Author.Tests.{lt-leb}
 use Rattle.text.specs.Bytes.{is_blank}
@@ -8,15 +8,12 @@ use Rattle.text.proofs.Blanks.{solid}
 use Rattle.text.proofs.Lists.{by-test}
 use Rattle.utf8.proofs.WellFormed.{ascii-first, empty-valid}
 use Rattle.number.specs.Decimal.{number_from, digits_below, parse_below}
-use Rattle.number.specs.declared.Number.{Number}
 use Rattle.number.proofs.Laws.{digit, from-digit, from_end, sign-no}
 use Rattle.idcode.specs.Id.{parse_id, all_id, sum_from, id_sum}
-use Rattle.idcode.specs.declared.Parsed.{Parsed}
 use Rattle.idcode.proofs.Laws.{sum-cons, id-byte, tail-good}
 use Rattle.token.specs.Read.{word}
 use Rattle.token.proofs.Words.{word-step, word-stop}
 use Rattle.parser_part.specs.FastWord.{Whole, FastNumber}
-use Rattle.parser_part.specs.declared.word.FastWord.{FastWord}
 
 -- ---- the bytes from `at` up to i belong to the word, and are ASCII
 pub record Passed (s : List ℕ) (at i : ℕ) : Type 0 where
@@ -83,14 +80,14 @@ module _ (s : List ℕ) (at i v : ℕ) (d : DigitsTo s at i v) where
         goes = d.goes ∙ rw (word-step s i h (solid (get_or s i 0) (omega arith))) (from-digit (2 ^ 64) v (get_or s i 0) (word (drop (i + 1) s)) (digit (get_or s i 0) l u));
       }
 
-  pub digits-end : i < length s → is_blank (get_or s i 0) ≡ true → Whole s at i × (parse_below (2 ^ 64) (word (drop at s)) ≡ Number.Is v)
+  pub digits-end : i < length s → is_blank (get_or s i 0) ≡ true → Whole s at i × (parse_below (2 ^ 64) (word (drop at s)) ≡ Some v)
   digits-end h e = (
     passed-end s at i d.passed h d.some (omega (arith, d.few)) e,
     d.goes ∙ rw (word-stop s i h e) (from_end (2 ^ 64) v (omega (arith, digits-fit))),
   )
 
   -- a byte that is no digit ends them, or it is a miss
-  pub digits-judged : i < length s → FastNumber s at (cond (is_blank (get_or s i 0)) (FastWord.Hit v i) FastWord.Miss)
+  pub digits-judged : i < length s → FastNumber s at (cond (is_blank (get_or s i 0)) (Some (v, i)) None)
   digits-judged h = by-test (is_blank (get_or s i 0)) (λ e. rw e (digits-end h e)) (λ e. rw e tt)
 
 -- ---- ids
@@ -153,7 +150,7 @@ module _ (s : List ℕ) (at i sum power : ℕ) (d : IdTo s at i sum power) where
         sums = d.sums ∙ rw (e, sum-cons (get_or s i 0) (word (drop (i + 1) s))) (spread sum power (get_or s i 0 - 32) (id_sum (word (drop (i + 1) s))));
       }
 
-means : (w : List ℕ) (n : ℕ) → all_id w ≡ true → id_sum w ≡ n → 1 ≤ n → n < 2 ^ 64 → parse_id w ≡ Parsed.Code (record { 0 = n - 1 })
+means : (w : List ℕ) (n : ℕ) → all_id w ≡ true → id_sum w ≡ n → 1 ≤ n → n < 2 ^ 64 → parse_id w ≡ Ok (record { 0 = n - 1 })
 unfolding parse_id sum_from
 means [] n a e p h = absurd (omega (arith, e))
 means (b ∷ w) n a e p h = rw (tail-good (b ∷ w) a, a, e, lt-leb (2 ^ 64) n h)
@@ -165,7 +162,7 @@ module _ (s : List ℕ) (at i sum power : ℕ) (d : IdTo s at i sum power) where
       let p : power ≤ 94 ^ 9 = rw d.size (pow-le-pow_right (omega arith) k) in
       omega (arith, d.small)
 
-  pub id-end : i < length s → is_blank (get_or s i 0) ≡ true → Whole s at i × (parse_id (word (drop at s)) ≡ Parsed.Code (record { 0 = sum - 1 }))
+  pub id-end : i < length s → is_blank (get_or s i 0) ≡ true → Whole s at i × (parse_id (word (drop at s)) ≡ Ok (record { 0 = sum - 1 }))
   unfolding all_id sum_from
   id-end h e =
       let w = word-stop s i h e in
@@ -176,7 +173,7 @@ module _ (s : List ℕ) (at i sum power : ℕ) (d : IdTo s at i sum power) where
 
 -- an id of one byte
 pub id-one : (s : List ℕ) (at : ℕ) → at + 1 < length s → 33 ≤ get_or s at 0 → get_or s at 0 ≤ 126 → is_blank (get_or s (at + 1) 0) ≡ true
-    → Whole s at (at + 1) × (parse_id (word (drop at s)) ≡ Parsed.Code (record { 0 = get_or s at 0 - 33 }))
+    → Whole s at (at + 1) × (parse_id (word (drop at s)) ≡ Ok (record { 0 = get_or s at 0 - 33 }))
 id-one s at h l u e =
     let less : get_or s at 0 - 32 - 1 ≡ get_or s at 0 - 33 = omega arith in
     rw less at (id-end s at (at + 1) (get_or s at 0 - 32) 94 (id-start s at (omega arith) l u) h e)

@@ -1,30 +1,20 @@
 -- Where the fast path hits at the cursor, the slow path reads the same: the word, the cursor after its blank, and what it means. Assumes nothing.
-use Rattle.std.proofs.Common.{◌≡◌, ℕ, ◌+◌, ◌-◌, ◌^◌, ◌<◌, ◌≤◌, true, false, cond, ltb, List, length, get_or, drop, sym, refl, ap, ◌∙◌, le_refl, add-zero, arith, length-take, get_or-drop, take_all, ltb-true}
+use Rattle.std.proofs.Common.{◌≡◌, ℕ, ◌+◌, ◌-◌, ◌^◌, ◌<◌, ◌≤◌, true, false, cond, ltb, List, length, get_or, drop, sym, ap, ◌∙◌, le_refl, add-zero, arith, length-take, get_or-drop, take_all, ltb-true, Some, Ok}
 use Rattle.text.specs.Bytes.{is_blank}
 use Rattle.text.specs.Texts.{part}
 use Rattle.utf8.specs.Utf8.{valid_utf8}
 use Rattle.text.specs.declared.Text.{Text}
 use Rattle.text.proofs.Lists.{cond_both}
 use Rattle.number.specs.Decimal.{parse_below}
-use Rattle.number.specs.declared.Number.{Number}
 use Rattle.idcode.specs.Id.{parse_id}
 use Rattle.idcode.specs.declared.IdCode.{IdCode}
-use Rattle.idcode.specs.declared.Parsed.{Parsed}
-use Rattle.command.specs.declared.Command.{Command}
 use Rattle.token.specs.Read.{Valid, most, rest, word, token}
 use Rattle.token.specs.Flat.{word_read, first_passed}
 use Rattle.token.specs.declared.Cursor.{Cursor}
-use Rattle.token.specs.declared.Token.{Token}
 use Rattle.token.proofs.Reading.{skip_stop}
 use Rattle.token.proofs.Words.{word_in, word-front, here-text}
-use Rattle.parser_part.specs.Plan.{answer, a_number, an_id, run}
-use Rattle.parser_part.specs.Parts.{word_from}
+use Rattle.parser_part.specs.Parts.{word_from, number_from, id_from}
 use Rattle.parser_part.specs.FastWord.{Whole, ends_at}
-use Rattle.parser_part.specs.declared.IdRead.{IdRead}
-use Rattle.parser_part.specs.declared.Next.{Next}
-use Rattle.parser_part.specs.declared.NumberRead.{NumberRead}
-use Rattle.parser_part.proofs.Answers.{word_good, number-parsed, id-parsed}
-use Rattle.parser_part.proofs.Arms.{answered, number-on, id-on}
 
 -- some bytes, and a blank after them
 pub ends-true : (s : List ℕ) (at e : ℕ) → ends_at s at e ≡ true → (at < e) × (e < length s) × (is_blank (get_or s e 0) ≡ true)
@@ -61,7 +51,7 @@ module _ {s : List ℕ} {c : Cursor} (v : Valid s c) {e : ℕ} (w : Lone s c.pla
   unfolding first_passed
   long = omega (arith, length-take n (word (rest s c)), w.long)
 
-  pub word-here : token s c (most n) ≡ Token.Word (text_at c.place e) (word_read c e (get_or s e 0))
+  pub word-here : token s c (most n) ≡ Ok (text_at c.place e, word_read c e (get_or s e 0))
   unfolding token
   word-here =
       let k : c.place < length s = omega (arith, w.some, w.inside) in
@@ -86,21 +76,16 @@ module _ (s : List ℕ) (c : Cursor) (v : Valid s c) (e : ℕ) (w : Whole s c.pl
   bytes : word (rest s c) ≡ part s t
   bytes = sym (word-part v (whole-lone w) 32 w.few)
 
-  judged : word_from s c (most 32) ≡ Token.Word t d
-  judged = sym (word_good s c (most 32) t d (word (rest s c)) (word-here v (whole-lone w) 32 w.few) bytes w.text)
+  judged : word_from s c (most 32) ≡ Ok (t, d)
+  unfolding word_from
+  judged = let u : valid_utf8 (part s t) ≡ true = rw (← bytes) w.text in rw (word-here v (whole-lone w) 32 w.few, u)
 
-  -- the answers, where `next` is the cursor that the code makes
+  -- what the slow path reads, where `next` is the cursor that the code makes
   module _ (next : Cursor) (n : next ≡ d) where
-    pub number-hit : (x : ℕ) → parse_below (2 ^ 64) (word (rest s c)) ≡ Number.Is x → (k : ℕ → Command)
-        → Next.Command (k x) next ≡ run (a_number (2 ^ 64) (λ y. answer (k y))) s c
-    number-hit x p k =
-        rw n
-        (number-on v (2 ^ 64) (number-parsed s c t d (word (rest s c)) judged bytes (2 ^ 64) (Number.Is x) (NumberRead.Is x d) (sym p) refl)
-        (λ y. answer (k y)) refl (answered s (k x)))
+    pub number_hit : (x : ℕ) → parse_below (2 ^ 64) (word (rest s c)) ≡ Some x → number_from s c (2 ^ 64) ≡ Ok (x, next)
+    unfolding number_from
+    number_hit x p = rw (n, judged, ← bytes, p)
 
-    pub id-hit : (i : IdCode) → parse_id (word (rest s c)) ≡ Parsed.Code i → (k : IdCode → Command)
-        → Next.Command (k i) next ≡ run (an_id (λ y. answer (k y))) s c
-    id-hit i p k =
-        rw n
-        (id-on v (id-parsed s c t d (word (rest s c)) judged bytes (Parsed.Code i) (IdRead.Is i d) (sym p) refl)
-        (λ y. answer (k y)) refl (answered s (k i)))
+    pub id_hit : (i : IdCode) → parse_id (word (rest s c)) ≡ Ok i → id_from s c ≡ Ok (i, next)
+    unfolding id_from
+    id_hit i p = rw (n, judged, ← bytes, p)

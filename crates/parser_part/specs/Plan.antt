@@ -1,5 +1,5 @@
 -- What a command asks to be read, part by part: a plan. Each part is judged before the next is read.
-use Rattle.std.specs.Prelude.{ℕ, ◌+◌, ◌^◌, Bool, true, false, cond, List, [], ◌∷◌, ◌++◌, length, drop, nat_lt}
+use Rattle.std.specs.Prelude.{ℕ, ◌+◌, ◌^◌, Bool, true, false, cond, List, [], ◌∷◌, ◌++◌, length, drop, nat_lt, Option, Some, None, Result, Ok, Err}
 use Prim.Native.String.{String}
 use Rattle.text.specs.Bytes.{bytes, equal, has, starts}
 use Rattle.text.specs.Texts.{part}
@@ -8,34 +8,28 @@ use Rattle.white_space.specs.WhiteSpace.{trimmed}
 use Rattle.text.specs.declared.Text.{Text}
 use Rattle.number.specs.Decimal.{parse_below}
 use Rattle.real.specs.Real.{digits_in, is_real}
-use Rattle.number.specs.declared.Number.{Number}
 use Rattle.value.specs.Values.{values as value_table}
 use Rattle.value.specs.declared.Value.{Value}
 use Rattle.idcode.specs.Id.{parse_id}
 use Rattle.idcode.specs.declared.IdCode.{IdCode}
-use Rattle.idcode.specs.declared.Parsed.{Parsed}
+use Rattle.idcode.specs.declared.InvalidIdCode.{InvalidIdCode}
 use Rattle.timescale.specs.Units.{parse_unit}
-use Rattle.timescale.specs.declared.ParsedUnit.{ParsedUnit}
+use Rattle.timescale.specs.declared.TimescaleUnit.{TimescaleUnit}
 use Rattle.scope.specs.Types.{parse_scope_type, parse_var_type}
 use Rattle.scope.specs.Index.{parse_index}
-use Rattle.scope.specs.declared.ParsedScopeType.{ParsedScopeType}
 use Rattle.scope.specs.declared.Var.{Var}
 use Rattle.scope.specs.declared.VarType.{VarType}
-use Rattle.scope.specs.declared.ParsedVarType.{ParsedVarType}
-use Rattle.scope.specs.declared.ParsedIndex.{ParsedIndex}
 use Rattle.scope.specs.declared.ReferenceIndex.{ReferenceIndex}
+use Rattle.scope.specs.declared.ScopeType.{ScopeType}
 use Rattle.command.specs.Meaning.{Remark, comment, date, version}
 use Rattle.command.specs.Refusals.{id_refusal, unit_refusal, scope_type_refusal, var_type_refusal, index_refusal}
 use Rattle.command.specs.Words.{word_of, end_mark}
 use Rattle.command.specs.declared.Command.{Command}
-use Rattle.command.specs.declared.Open.{Open}
 use Rattle.command.specs.declared.Refusal.{Refusal}
 use Rattle.command.specs.declared.SimulationCommand.{SimulationCommand}
-use Rattle.token.specs.Read.{Bound, most, values, unlimited, token, text_from}
+use Rattle.token.specs.Read.{Reading, Bound, most, values, unlimited, token, text_from}
 use Rattle.token.specs.declared.Cursor.{Cursor}
-use Rattle.token.specs.declared.Token.{Token}
 use Rattle.parser_part.specs.declared.Kind.{Kind}
-use Rattle.parser_part.specs.declared.Next.{Next}
 use Rattle.command.specs.declared.Word.{Word}
 
 pub data Plan : Type 0 where
@@ -46,27 +40,27 @@ pub data Plan : Type 0 where
   a_token : Bound → (Text → List ℕ → Plan) → Plan  -- a token so judged as it is read; then on with its place and its bytes
   a_text : (Text → List ℕ → Plan) → Plan  -- the bytes up to the first `$end`, likewise
 
-abbrev pub with_open : Cursor → Open → Cursor
+abbrev pub with_open : Cursor → Option SimulationCommand → Cursor
 with_open c o = record { place = c.place; line = c.line; pending = c.pending; sim = o }
 
--- a refusal has the line of the last byte read
-abbrev pub refused : Refusal → Cursor → Next
-refused e c = Next.Refused e c.line c
+-- a refusal, with the cursor after the last byte read
+abbrev pub refused : Refusal → Cursor → Reading Command
+refused e c = Err (e, c)
 
 -- on with a token's text and the cursor after it
-abbrev pub and_then : (Text → Cursor → Next) → Token → Next
-and_then more (Token.Word t d) = more t d
-and_then more (Token.Refused e d) = refused e d
+abbrev pub and_then : (Text → Cursor → Reading Command) → Reading Text → Reading Command
+and_then more (Ok (t, d)) = more t d
+and_then more (Err (e, d)) = refused e d
 
 -- `$end` names the open simulation command and closes it
-abbrev pub ended : Open → Cursor → Next
-ended Open.None c = refused Refusal.UnmatchedEnd c
-ended (Open.Of k) c = Next.Command (Command.End k) (with_open c Open.None)
+abbrev pub ended : Option SimulationCommand → Cursor → Reading Command
+ended None c = refused Refusal.UnmatchedEnd c
+ended (Some k) c = Ok (Command.End k, with_open c None)
 
 -- carrying a plan out
-unfoldable pub run : Plan → List ℕ → Cursor → Next
-run (answer k) s c = Next.Command k c
-run (begins k) s c = Next.Command (Command.Begin k) (with_open c (Open.Of k))
+unfoldable pub run : Plan → List ℕ → Cursor → Reading Command
+run (answer k) s c = Ok (k, c)
+run (begins k) s c = Ok (Command.Begin k, with_open c (Some k))
 run ends s c = ended c.sim c
 run (refuse e) s c = refused e c
 run (a_token n f) s c = and_then (λ t d. run (f t (part s t)) s d) (token s c n)
@@ -77,17 +71,17 @@ run (a_text f) s c = and_then (λ t d. run (f t (part s t)) s d) (text_from s c)
 abbrev pub a_word : Bound → (Text → List ℕ → Plan) → Plan
 a_word n f = a_token n (λ t w. cond (valid_utf8 w) (f t w) (refuse Refusal.InvalidUtf8))
 
-abbrev pub numbered : Number → (ℕ → Plan) → Plan
-numbered (Number.Is v) f = f v
-numbered Number.Refused f = refuse Refusal.ParseIntError
+abbrev pub numbered : Option ℕ → (ℕ → Plan) → Plan
+numbered (Some v) f = f v
+numbered None f = refuse Refusal.ParseIntError
 
 -- a number below the limit
 abbrev pub a_number : ℕ → (ℕ → Plan) → Plan
 a_number limit f = a_word (most 32) (λ t w. numbered (parse_below limit w) f)
 
-abbrev pub identified : Parsed → (IdCode → Plan) → Plan
-identified (Parsed.Code i) f = f i
-identified (Parsed.Refused e) f = refuse (id_refusal e)
+abbrev pub identified : Result IdCode InvalidIdCode → (IdCode → Plan) → Plan
+identified (Ok i) f = f i
+identified (Err e) f = refuse (id_refusal e)
 
 abbrev pub an_id : (IdCode → Plan) → Plan
 an_id f = a_word (most 32) (λ t w. identified (parse_id w) f)
@@ -114,9 +108,9 @@ unfoldable pub is_ascii : List ℕ → Bool
 is_ascii [] = true
 is_ascii (b ∷ r) = cond (nat_lt b 128) (is_ascii r) false
 
-abbrev pub in_unit : ℕ → ParsedUnit → Plan
-in_unit n (ParsedUnit.Is u) = closing (Command.Timescale n u)
-in_unit n ParsedUnit.Invalid = refuse unit_refusal
+abbrev pub in_unit : ℕ → Option TimescaleUnit → Plan
+in_unit n (Some u) = closing (Command.Timescale n u)
+in_unit n None = refuse unit_refusal
 
 abbrev pub scaled : List ℕ → List ℕ → Plan
 scaled q u = numbered (parse_below (2 ^ 32) q) (λ n. in_unit n (parse_unit u))
@@ -130,9 +124,9 @@ timescale =
     a_word (most 8)
     (λ t w. cond (is_ascii w) (unit_in (digits_in w) (drop (length (digits_in w)) w)) (refuse unit_refusal))
 
-abbrev pub scope_of : ParsedScopeType → Plan
-scope_of (ParsedScopeType.Is k) = a_word unlimited (λ t w. closing (Command.ScopeDef k t))
-scope_of ParsedScopeType.Invalid = refuse scope_type_refusal
+abbrev pub scope_of : Option ScopeType → Plan
+scope_of (Some k) = a_word unlimited (λ t w. closing (Command.ScopeDef k t))
+scope_of None = refuse scope_type_refusal
 
 abbrev pub scope : Plan
 scope = a_word (most 32) (λ t w. scope_of (parse_scope_type w))
@@ -144,9 +138,9 @@ var_def v x = Command.VarDef v.var_type v.size v.code v.reference x
 abbrev pub last_of : Command → List ℕ → Plan
 last_of k e = cond (equal e end_mark) (answer k) (refuse Refusal.ExpectedEndCommand)
 
-abbrev pub indexed : Var → ParsedIndex → Plan
-indexed v (ParsedIndex.Is x) = a_word (most 32) (λ t w. last_of (var_def v x) w)
-indexed v ParsedIndex.Invalid = refuse index_refusal
+abbrev pub indexed : Var → Option ReferenceIndex → Plan
+indexed v (Some x) = a_word (most 32) (λ t w. last_of (var_def v x) w)
+indexed v None = refuse index_refusal
 
 abbrev pub after_name : Var → List ℕ → Plan
 after_name v w = cond (starts (bytes "[") w) (indexed v (parse_index w)) (last_of (var_def v ReferenceIndex.None) w)
@@ -162,9 +156,9 @@ var_name k n i =
 abbrev pub var_id : VarType → ℕ → Plan
 var_id k n = an_id (λ i. var_name k n i)
 
-abbrev pub var_of : ParsedVarType → Plan
-var_of (ParsedVarType.Is k) = a_number (2 ^ 32) (λ n. var_id k n)
-var_of ParsedVarType.Invalid = refuse var_type_refusal
+abbrev pub var_of : Option VarType → Plan
+var_of (Some k) = a_number (2 ^ 32) (λ n. var_id k n)
+var_of None = refuse var_type_refusal
 
 abbrev pub var : Plan
 var = a_word (most 32) (λ t w. var_of (parse_var_type w))

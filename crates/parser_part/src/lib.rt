@@ -6,12 +6,12 @@ pub mod word;
 ghost use Rattle.std.specs.Prelude.{◌≡◌, ◌+◌};
 ghost use Rattle.token.specs.Read.{Valid, most, unlimited};
 ghost use Rattle.parser_part.specs.Plan.{run, closing};
-ghost use Rattle.parser_part.specs.Parts.{word_from, number_from, id_from, number_at, id_at};
+ghost use Rattle.parser_part.specs.Parts.{word_from, number_from, id_from};
 
 use command::{Command, Refusal};
-use idcode::{IdCode, Parsed};
-use number::Number;
-use token::{Cursor, Token};
+use idcode::IdCode;
+use text::Text;
+use token::{Cursor, Reading};
 use value::Value;
 
 // What a command's first byte chooses.
@@ -26,46 +26,22 @@ pub enum Kind {
     Other,
 }
 
-// A command and the cursor after it; a refusal, its line, and the cursor just after the last byte read; or the end.
-#[derive(Clone, Copy)]
-pub enum Next {
-    Command(Command, Cursor),
-    Refused(Refusal, u64, Cursor),
-    Done(Cursor),
-}
-
-#[derive(Clone, Copy)]
-pub enum NumberRead {
-    Is(u64, Cursor),
-    Refused(Refusal, Cursor),
-}
-
-#[derive(Clone, Copy)]
-pub enum IdRead {
-    Is(IdCode, Cursor),
-    Refused(Refusal, Cursor),
-}
-
 // A token of at most `limit` bytes that must be UTF-8.
-pub fn read_token_str(input: &[u8], c: Cursor, limit: usize) -> Token
+#[tactic(auto, unfolding(crate::specs::Parts::word_from))]
+pub fn read_token_str(input: &[u8], c: Cursor, limit: usize) -> Reading<Text>
     requires { Valid input.now c }
     ensures { result ≡ word_from input.now c (most limit) }
 {
-    let tok = token::read_token(input, c, limit);
-    match tok {
-        Token::Word(t, next) => {
-            if utf8::valid(text::part(input, t)) {
-                Token::Word(t, next)
-            } else {
-                Token::Refused(Refusal::InvalidUtf8, next)
-            }
-        }
-        Token::Refused(e, next) => Token::Refused(e, next),
+    let (t, next) = token::read_token(input, c, limit)?;
+    if !utf8::valid(text::part(input, t)) {
+        return Err((Refusal::InvalidUtf8, next));
     }
+    Ok((t, next))
 }
 
 // A name or a string: a token without a limit.
-pub fn read_name(input: &[u8], c: Cursor) -> Token
+#[tactic(auto, using(crate::proofs::Parts::word_unlimited))]
+pub fn read_name(input: &[u8], c: Cursor) -> Reading<Text>
     requires { Valid input.now c }
     ensures { result ≡ word_from input.now c unlimited }
 {
@@ -73,60 +49,38 @@ pub fn read_name(input: &[u8], c: Cursor) -> Token
 }
 
 // A number of at most `largest`.
-pub fn read_number(input: &[u8], c: Cursor, largest: u64) -> NumberRead
+#[tactic(auto, unfolding(crate::specs::Parts::number_from))]
+pub fn read_number(input: &[u8], c: Cursor, largest: u64) -> Reading<u64>
     requires { Valid input.now c }
     ensures { result ≡ number_from input.now c (largest + 1) }
 {
-    let tok = read_token_str(input, c, 32);
-    match tok {
-        Token::Word(t, next) => number_at(number::parse_most(text::part(input, t), largest), next),
-        Token::Refused(e, next) => NumberRead::Refused(e, next),
-    }
+    let (t, next) = read_token_str(input, c, 32)?;
+    let n = number::parse_most(text::part(input, t), largest);
+    let v = n.ok_or((Refusal::ParseIntError, next))?;
+    Ok((v, next))
 }
 
-fn number_at(n: Number, c: Cursor) -> NumberRead
-    ensures { result ≡ number_at n c }
-{
-    match n {
-        Number::Is(v) => NumberRead::Is(v, c),
-        Number::Refused => NumberRead::Refused(Refusal::ParseIntError, c),
-    }
-}
-
-pub fn read_id(input: &[u8], c: Cursor) -> IdRead
+#[tactic(auto, unfolding(crate::specs::Parts::id_from))]
+pub fn read_id(input: &[u8], c: Cursor) -> Reading<IdCode>
     requires { Valid input.now c }
     ensures { result ≡ id_from input.now c }
 {
-    let tok = read_token_str(input, c, 32);
-    match tok {
-        Token::Word(t, next) => id_at(IdCode::from_str(text::part(input, t)), next),
-        Token::Refused(e, next) => IdRead::Refused(e, next),
-    }
-}
-
-fn id_at(p: Parsed, c: Cursor) -> IdRead
-    ensures { result ≡ id_at p c }
-{
-    match p {
-        Parsed::Code(i) => IdRead::Is(i, c),
-        Parsed::Refused(e) => IdRead::Refused(Refusal::from_id(e), c),
+    let (t, next) = read_token_str(input, c, 32)?;
+    match IdCode::from_str(text::part(input, t)) {
+        Ok(i) => Ok((i, next)),
+        Err(e) => Err((Refusal::from_id(e), next)),
     }
 }
 
 // The closing `$end` of the command k.
-pub fn read_command_end(input: &[u8], c: Cursor, k: Command) -> Next
+#[tactic(auto, unfolding(crate::specs::Plan::run))]
+pub fn read_command_end(input: &[u8], c: Cursor, k: Command) -> Reading<Command>
     requires { Valid input.now c }
     ensures { result ≡ run (closing k) input.now c }
 {
-    let tok = token::read_token(input, c, 8);
-    match tok {
-        Token::Word(t, next) => {
-            if text::is_word(input, t, &command::END) {
-                Next::Command(k, next)
-            } else {
-                Next::Refused(Refusal::ExpectedEndCommand, next.line, next)
-            }
-        }
-        Token::Refused(e, next) => Next::Refused(e, next.line, next),
+    let (t, next) = token::read_token(input, c, 8)?;
+    if !text::is_word(input, t, &command::END) {
+        return Err((Refusal::ExpectedEndCommand, next));
     }
+    Ok((k, next))
 }

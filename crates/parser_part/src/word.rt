@@ -5,28 +5,22 @@ ghost use Rattle.text.specs.Bytes.{is_blank};
 ghost use Rattle.parser_part.specs.FastWord.{FastNumber, FastId, ends_at};
 ghost use Rattle.text.specs.Texts.{limit};
 
-#[derive(Clone, Copy)]
-pub enum FastWord {
-    Hit(u64, usize),
-    Miss,
-}
-
 // The digits from `at` up to a blank, 17 at most.
-pub fn fast_number(input: &[u8], at: usize) -> FastWord
+pub fn fast_number(input: &[u8], at: usize) -> Option<(u64, usize)>
     requires at_in_bounds { at ≤ length input.now }
     requires input_len_bound { length input.now ≤ limit }
     ensures { FastNumber input.now at result }
 {
     let stop = text::least(input.len(), at + 18);
     if stop <= at + 1 {
-        return FastWord::Miss;
+        return None;
     }
     let first = input[at];
     if first < 48 {
-        return FastWord::Miss;
+        return None;
     }
     if 57 < first {
-        return FastWord::Miss;
+        return None;
     }
     let mut v = text::wide(first) - 48;
     let mut i = at + 1;
@@ -38,7 +32,7 @@ pub fn fast_number(input: &[u8], at: usize) -> FastWord
         v = v * 10 + d;
         i += 1;
     }
-    FastWord::Miss
+    None
 }
 
 // What a digit means; more than 9 where the byte is none.
@@ -49,40 +43,41 @@ fn digit(b: u8) -> u64
 }
 
 // The number v, if the byte b at i ends it.
-fn number_end(b: u8, v: u64, i: usize) -> FastWord
-    ensures { result ≡ (if is_blank b then FastWord.Hit v i else FastWord.Miss) }
+fn number_end(b: u8, v: u64, i: usize) -> Option<(u64, usize)>
+    ensures { result ≡ (if is_blank b then Some (v, i) else None) }
 {
     if text::whitespace_byte(b) {
-        return FastWord::Hit(v, i);
+        Some((v, i))
+    } else {
+        None
     }
-    FastWord::Miss
 }
 
 // The id from `at` up to a blank, of 9 bytes at most.
-pub fn fast_id(input: &[u8], at: usize) -> FastWord
+pub fn fast_id(input: &[u8], at: usize) -> Option<(u64, usize)>
     requires at_in_bounds { at ≤ length input.now }
     requires input_len_bound { length input.now ≤ limit }
     ensures { FastId input.now at result }
 {
     if input.len() <= at + 1 {
-        return FastWord::Miss;
+        return None;
     }
     let first = input[at];
     if first < 33 {
-        return FastWord::Miss;
+        return None;
     }
     if 126 < first {
-        return FastWord::Miss;
+        return None;
     }
     // Most ids have one byte.
     if text::whitespace_byte(input[at + 1]) {
-        return FastWord::Hit(text::wide(first) - 33, at + 1);
+        return Some((text::wide(first) - 33, at + 1));
     }
     fast_long_id(input, at)
 }
 
 // An id that has more than one byte.
-fn fast_long_id(input: &[u8], at: usize) -> FastWord
+fn fast_long_id(input: &[u8], at: usize) -> Option<(u64, usize)>
     requires at_in_bounds { (at + 1 < length input.now) × (length input.now ≤ limit) }
     requires bound { (33 ≤ slice_index input.now at) × (slice_index input.now at ≤ 126) }
     ensures { FastId input.now at result }
@@ -93,22 +88,22 @@ fn fast_long_id(input: &[u8], at: usize) -> FastWord
     while i < input.len() {
         let b = input[i];
         if text::whitespace_byte(b) {
-            return FastWord::Hit(sum - 1, i);
+            return Some((sum - 1, i));
         }
         if b < 33 {
-            return FastWord::Miss;
+            return None;
         }
         if 126 < b {
-            return FastWord::Miss;
+            return None;
         }
         if at + 9 <= i {
-            return FastWord::Miss;
+            return None;
         }
         sum = sum + (text::wide(b) - 32) * power;
         power = power * 94;
         i += 1;
     }
-    FastWord::Miss
+    None
 }
 
 // Whether some bytes stand from `at` to `end`, and a blank after them.

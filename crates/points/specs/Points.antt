@@ -1,9 +1,10 @@
 -- Document 01's starred points: what is asked, and what must be answered, in the page's numbers.
-use Rattle.std.specs.Prelude.{ℕ, ◌≡◌, List, [], ◌∷◌, map}
+use Rattle.scope.specs.declared.ReferenceIndex.{ReferenceIndex}
+use Rattle.idcode.specs.declared.InvalidIdCode.{InvalidIdCode}
+use Rattle.idcode.specs.declared.IdCode.{IdCode}
+use Rattle.std.specs.Prelude.{ℕ, ◌≡◌, List, [], ◌∷◌, map, Option, Some, None, Result, Ok, Err}
 use Rattle.idcode.specs.Id.{parse_id, id_text}
-use Rattle.idcode.specs.declared.Parsed.{Parsed}
 use Rattle.scope.specs.Index.{parse_index, index_text}
-use Rattle.scope.specs.declared.ParsedIndex.{ParsedIndex}
 use Rattle.command.specs.Meaning.{Meaning, remark, comment, change, vector}
 use Rattle.command.specs.Refusals.{number_of, id_refusal, index_refusal}
 use Rattle.parser.specs.Next.{fresh}
@@ -28,13 +29,13 @@ pub data Answer : Type 0 where
   refusal : ℕ → Answer
   dump : List Meaning → Ending → Answer
 
-abbrev pub id_answer : Parsed → Answer
-id_answer (Parsed.Code c) = code c.0 (id_text c.0)
-id_answer (Parsed.Refused e) = refusal (number_of (id_refusal e))
+abbrev pub id_answer : Result IdCode InvalidIdCode → Answer
+id_answer (Ok c) = code c.0 (id_text c.0)
+id_answer (Err e) = refusal (number_of (id_refusal e))
 
-abbrev pub index_answer : ParsedIndex → Answer
-index_answer (ParsedIndex.Is x) = index (index_text x)
-index_answer ParsedIndex.Invalid = refusal (number_of index_refusal)
+abbrev pub index_answer : Option ReferenceIndex → Answer
+index_answer (Some x) = index (index_text x)
+index_answer None = refusal (number_of index_refusal)
 
 abbrev pub commands_of : Reading → List Meaning
 commands_of (reads m r) = m ∷ commands_of r

@@ -1,5 +1,6 @@
 -- What was laid out reads back, part by part. `Before s c l r e`: l is to be read, then r, and after l the cursor is e.
 -- Each law takes one part off l, and goes on with whatever the plan does next. Assumes nothing.
+use Rattle.std.specs.Prelude.{Some, None, Ok}
 use Prim.Native.Nat.{ℕ, ◌≤◌, ◌<◌}
 use mathlib.Core.Path.{◌≡◌, refl, sym, ap, ◌∙◌}
 use mathlib.Core.Bool.{true, false, false≢true}
@@ -17,16 +18,14 @@ use Rattle.text.proofs.Lists.{both, not-swap}
 use Rattle.text.proofs.Equal.{starts-cut}
 use Rattle.command.specs.Meaning.{Meaning, begin, end, meaning, open_after}
 use Rattle.command.specs.declared.Command.{Command}
-use Rattle.command.specs.declared.Open.{Open}
 use Rattle.command.specs.declared.SimulationCommand.{SimulationCommand}
 use Rattle.token.specs.Read.{Bound, most, passed, Valid, end_read, after, rest, gap, skipped, word_here, token, text_to, text_from}
 use Rattle.token.specs.declared.Cursor.{Cursor}
-use Rattle.token.specs.declared.Token.{Token}
 use Rattle.token.proofs.Reading.{place_after, after-append, rest-after, part-here, head_of, gap_of, word-of, up_to-of}
 use Rattle.token.proofs.Tokens.{token-text}
 use Rattle.parser_part.specs.Plan.{Plan, answer, begins, ends, a_token, a_text, a_word, closing, run, word_plan, kind_of, kind_plan, with_open}
 use Rattle.command.specs.Words.{word_of}
-use Rattle.parser.specs.Next.{found, next_from}
+use Rattle.parser.specs.Next.{next_of, found, next_from}
 use Rattle.parser.specs.All.{Said, said, done, says}
 use Rattle.command.specs.declared.Word.{Word}
 use Rattle.parser.proofs.Ahead.{valid-good}
@@ -43,7 +42,7 @@ advanced s a l r c e h =
 
 -- a token stands here, and a blank after it
 token-reads : (s : List ℕ) (c : Cursor) (n : Bound) (x : ℕ) (w : List ℕ) (b : ℕ) (r : List ℕ) → rest s c ≡ (x ∷ w) ++ b ∷ r → is_blank x ≡ false → no_blank (x ∷ w) ≡ true
-    → is_blank b ≡ true → length (x ∷ w) ≤ passed n (x ∷ w) → token s c n ≡ Token.Word (record { start = c.place; len = length (x ∷ w) }) (after ((x ∷ w) ++ b ∷ []) c)
+    → is_blank b ≡ true → length (x ∷ w) ≤ passed n (x ∷ w) → token s c n ≡ Ok (record { start = c.place; len = length (x ∷ w) }, after ((x ∷ w) ++ b ∷ []) c)
 unfolding token word_here skipped after all_blank
 token-reads s c n x w b r left solid p q len =
     let none : gap (rest s c) ≡ [] = rw left (gap_of [] x (w ++ b ∷ r) refl solid) in
@@ -52,7 +51,7 @@ token-reads s c n x w b r left solid p q len =
 
 -- a text without `$end` stands here, a byte that `$end` has not, and `$end`
 text-reads : (s : List ℕ) (c : Cursor) (a : List ℕ) (b : ℕ) (r : List ℕ) → rest s c ≡ a ++ b ∷ (end_mark ++ r) → holds end_mark a ≡ false → has end_mark b ≡ false
-    → text_from s c ≡ Token.Word (record { start = c.place; len = length (a ++ b ∷ []) }) (after ((a ++ b ∷ []) ++ end_mark) c)
+    → text_from s c ≡ Ok (record { start = c.place; len = length (a ++ b ∷ []) }, after ((a ++ b ∷ []) ++ end_mark) c)
 unfolding text_from text_to starts has
 text-reads s c a b r left p q =
     let head : starts end_mark (b ∷ (end_mark ++ r)) ≡ false = starts-cut end_mark [] b (end_mark ++ r) q in
@@ -63,7 +62,7 @@ text-reads s c a b r left p q =
 module _ (s : List ℕ) (r : List ℕ) (e : Cursor) (y : Said) where
   -- ---- a token and the blank after it
   pub by_token : (c : Cursor) (n : Bound) (f : Text → List ℕ → Plan) (w : List ℕ) (b : ℕ) (l : List ℕ) → Before s c (w ++ b ∷ l) r e → is_token w ≡ true → is_blank b ≡ true
-      → length w ≤ passed n w → ((t : Text) (d : Cursor) → part s t ≡ w → Before s d l r e → says s (run (f t w) s d) ≡ y) → says s (run (a_token n f) s c) ≡ y
+      → length w ≤ passed n w → ((t : Text) (d : Cursor) → part s t ≡ w → Before s d l r e → says s (next_of (run (f t w) s d)) ≡ y) → says s (next_of (run (a_token n f) s c)) ≡ y
   unfolding run is_token no_blank
   by_token c n f [] b l h p q len k = absurd (false≢true p)
   by_token c n f (x ∷ w) b l h p q len k =
@@ -77,13 +76,13 @@ module _ (s : List ℕ) (r : List ℕ) (e : Cursor) (y : Said) where
 
   -- ---- the same where it must be UTF-8
   pub by_word : (c : Cursor) (n : Bound) (f : Text → List ℕ → Plan) (w : List ℕ) (b : ℕ) (l : List ℕ) → Before s c (w ++ b ∷ l) r e → is_token w ≡ true → is_blank b ≡ true
-      → length w ≤ passed n w → valid_utf8 w ≡ true → ((t : Text) (d : Cursor) → part s t ≡ w → Before s d l r e → says s (run (f t w) s d) ≡ y) → says s (run (a_word n f) s c) ≡ y
+      → length w ≤ passed n w → valid_utf8 w ≡ true → ((t : Text) (d : Cursor) → part s t ≡ w → Before s d l r e → says s (next_of (run (f t w) s d)) ≡ y) → says s (next_of (run (a_word n f) s c)) ≡ y
   by_word c n f w b l h p q len u k = by_token c n _ w b l h p q len (λ t d is g. rw u (k t d is g))
 
   -- ---- a text up to the first `$end`
   pub by-text : (c : Cursor) (f : Text → List ℕ → Plan) (a : List ℕ) (b : ℕ) (l : List ℕ) → Before s c (a ++ b ∷ (end_mark ++ l)) r e
       → holds end_mark a ≡ false → has end_mark b ≡ false
-      → ((t : Text) (d : Cursor) → part s t ≡ a ++ b ∷ [] → Before s d l r e → says s (run (f t (a ++ b ∷ [])) s d) ≡ y) → says s (run (a_text f) s c) ≡ y
+      → ((t : Text) (d : Cursor) → part s t ≡ a ++ b ∷ [] → Before s d l r e → says s (next_of (run (f t (a ++ b ∷ [])) s d)) ≡ y) → says s (next_of (run (a_text f) s c)) ≡ y
   unfolding run
   by-text c f a b l h p q k =
       let v : List ℕ = a ++ b ∷ [] in
@@ -95,7 +94,7 @@ module _ (s : List ℕ) (r : List ℕ) (e : Cursor) (y : Said) where
 
   -- ---- blanks and the first byte
   pub by_first : (c : Cursor) (g : List ℕ) (b : ℕ) (l : List ℕ) → Valid s c → Before s c (g ++ b ∷ l) r e → all_blank g ≡ true → is_blank b ≡ false
-      → ((d : Cursor) → Before s d l r e → says s (run (kind_plan (kind_of b)) s d) ≡ y) → says s (next_from s c) ≡ y
+      → ((d : Cursor) → Before s d l r e → says s (next_of (run (kind_plan (kind_of b)) s d)) ≡ y) → says s (next_from s c) ≡ y
   unfolding next_from found skipped after
   by_first c g b l v h p q k =
       let left : rest s c ≡ g ++ b ∷ (l ++ r) = h.left ∙ append_assoc g (b ∷ l) r in
@@ -108,20 +107,20 @@ module _ (s : List ℕ) (r : List ℕ) (e : Cursor) (y : Said) where
 
 -- ---- the ends: the command, and the closing before it
 module _ (s : List ℕ) (r : List ℕ) (e : Cursor) (m : Meaning) (k : Command) (is : meaning s k ≡ m) where
-  pub by_answer : (c : Cursor) → Before s c [] r e → says s (run (answer k) s c) ≡ said m e
+  pub by_answer : (c : Cursor) → Before s c [] r e → says s (next_of (run (answer k) s c)) ≡ said m e
   unfolding run after
   by_answer c h = rw (is, h.ends)
 
-  pub by-closing : (c : Cursor) → Before s c (bytes "$end\n") r e → says s (run (closing k) s c) ≡ said m e
+  pub by-closing : (c : Cursor) → Before s c (bytes "$end\n") r e → says s (next_of (run (closing k) s c)) ≡ said m e
   unfolding is_blank equal is_token no_blank
   by-closing c h = by_token s r e (said m e) c (most 8) _ end_mark 10 [] h refl refl (omega arith) (λ t d q g. by_answer d g)
 
 module _ (s : List ℕ) (r : List ℕ) (e : Cursor) (k : SimulationCommand) (c : Cursor) (h : Before s c [] r e) where
-  pub by-begins : says s (run (begins k) s c) ≡ said (begin k) (with_open e (Open.Of k))
+  pub by-begins : says s (next_of (run (begins k) s c)) ≡ said (begin k) (with_open e (Some k))
   unfolding run after
   by-begins = rw h.ends
 
-  pub by-ends : e.sim ≡ Open.Of k → says s (run ends s c) ≡ said (end k) (with_open e Open.None)
+  pub by-ends : e.sim ≡ Some k → says s (next_of (run ends s c)) ≡ said (end k) (with_open e None)
   unfolding run after
   by-ends o = rw (h.ends, o)
 
@@ -151,7 +150,7 @@ fits s c d w l r e v h =
 -- `$` and a word
 module _ (s g r : List ℕ) (c e : Cursor) (v : Valid s c) (p : all_blank g ≡ true) where
   pub by-dollar : (y : Said) (k : Word) (w : List ℕ) (b : ℕ) (l : List ℕ) → Before s c (g ++ 36 ∷ (w ++ b ∷ l)) r e → is_token w ≡ true → is_blank b ≡ true
-      → length w ≤ 16 → word_of w ≡ k → ((d : Cursor) → Before s d l r e → says s (run (word_plan k) s d) ≡ y) → says s (next_from s c) ≡ y
+      → length w ≤ 16 → word_of w ≡ k → ((d : Cursor) → Before s d l r e → says s (next_of (run (word_plan k) s d)) ≡ y) → says s (next_from s c) ≡ y
   unfolding kind_of has is_blank
   by-dollar y k w b l h q z n is f =
       by_first s r e y c g 36 (w ++ b ∷ l) v h p refl

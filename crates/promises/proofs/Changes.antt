@@ -1,4 +1,5 @@
 -- The layouts of a timestamp and of each change of a value read back: one line for each part. Assumes nothing.
+use Rattle.std.specs.Prelude.{Ok}
 use Prim.Native.Nat.{ℕ, ◌-◌, ◌^◌, ◌≤◌, ◌<◌}
 use mathlib.Core.Path.{◌≡◌, refl, ap, ap₂, ◌∙◌}
 use mathlib.Core.Bool.{true, false, false≢true}
@@ -18,13 +19,13 @@ use Rattle.value.specs.Values.{is_value, lower}
 use Rattle.value.specs.declared.Value.{Value}
 use Rattle.idcode.specs.Id.{id_text, parse_id}
 use Rattle.idcode.specs.declared.IdCode.{IdCode}
-use Rattle.idcode.specs.declared.Parsed.{Parsed}
 use Rattle.idcode.proofs.Pairing.{read-written as id-written}
 use Rattle.command.specs.Meaning.{Meaning, timestamp, change, scalar, vector, real, string, meaning}
 use Rattle.command.specs.declared.Command.{Command}
 use Rattle.token.specs.Read.{most, unlimited, values, values_in, Valid}
 use Rattle.token.specs.declared.Cursor.{Cursor}
 use Rattle.parser_part.specs.Plan.{answer, an_id, run, kind_of}
+use Rattle.parser.specs.Next.{next_of}
 use Rattle.parser.specs.All.{said, says}
 use Rattle.write_check.specs.Check.{is_name, are_lower, is_vector}
 use Rattle.write.specs.Layout.{layout, is_id}
@@ -68,7 +69,7 @@ vector-token [] e = absurd (false≢true e)
 vector-token (b ∷ v) e = let h = vector-is (b ∷ v) e in (h, h.solid)
 
 -- ---- ids
-pub id-fits : (i : IdCode) → is_id i ≡ true → i.0 < 2 ^ 64 → parse_id (id_text i.0) ≡ Parsed.Code i
+pub id-fits : (i : IdCode) → is_id i ≡ true → i.0 < 2 ^ 64 → parse_id (id_text i.0) ≡ Ok i
 unfolding is_id
 id-fits i e h = let n = eqb-false i.0 (2 ^ 64 - 1) (not-swap _ e) in id-written i.0 (omega arith)
 
@@ -83,7 +84,7 @@ module _ (s g r : List ℕ) (c e : Cursor) (v : Valid s c) (p : all_blank g ≡ 
 
   -- the id that ends a change
   id-last : (i : IdCode) (m : Meaning) (f : IdCode → Command) (d : Cursor) → is_id i ≡ true → i.0 < 2 ^ 64 → meaning s (f i) ≡ m
-      → Before s d (id_text i.0 ++ bytes "\n") r e → says s (run (an_id (λ i. answer (f i))) s d) ≡ said m e
+      → Before s d (id_text i.0 ++ bytes "\n") r e → says s (next_of (run (an_id (λ i. answer (f i))) s d)) ≡ said m e
   unfolding is_blank
   id-last i m f d y z q a =
       let w = plain-id i.0 z in

@@ -5,7 +5,7 @@ use mathlib.Core.List.{List}
 use Rattle.parser.specs.Next.{next_from}
 use Rattle.parser.specs.All.{followed, commands}
 use Rattle.parser.proofs.All as all
-use Rattle.parser_part.specs.declared.Next.{Next}
+use Rattle.parser.specs.declared.Next.{Next}
 use Rattle.promises.specs.Stated.{first_of, CommandsStep}
 
 by_cases : (s : List ℕ) (x : Next) → followed (commands s) x ≡ first_of s x

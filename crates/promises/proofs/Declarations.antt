@@ -1,4 +1,5 @@
 -- The layout of each `$` command reads back: one line for each part. Assumes nothing.
+use Rattle.std.specs.Prelude.{Option, Some, None}
 use Prim.Native.Nat.{ℕ, ◌^◌, ◌≤◌, ◌<◌}
 use mathlib.Core.Path.{◌≡◌, refl, sym, ap, ◌∙◌}
 use mathlib.Core.Bool.{true, false, false≢true}
@@ -38,13 +39,12 @@ use Rattle.scope.specs.Index.{SizedIndex}
 use Rattle.scope.proofs.Indexes.{Given, read-index, index-length, index-plain, index-begins}
 use Rattle.command.specs.Meaning.{Meaning, Remark, comment, date, version, remark, timescale, scope_def, upscope, var_def, enddefinitions, begin, end, meaning}
 use Rattle.command.specs.declared.Command.{Command}
-use Rattle.command.specs.declared.Open.{Open}
 use Rattle.command.specs.declared.SimulationCommand.{SimulationCommand}
 use Rattle.token.specs.Read.{most, unlimited, Valid}
 use Rattle.token.specs.declared.Cursor.{Cursor}
 use Rattle.token.proofs.Reading.{part_in}
 use Rattle.parser_part.specs.Plan.{run, trimmed_in, is_ascii, a_word, last_of, var_end, remark_of, remark as remark_plan, var_def as var_command}
-use Rattle.parser.specs.Next.{next_from}
+use Rattle.parser.specs.Next.{next_of, next_from}
 use Rattle.parser.specs.All.{Said, said, says}
 use Rattle.command.specs.declared.Word.{Word}
 use Rattle.write_check.specs.Check.{is_name, is_trimmed}
@@ -80,10 +80,10 @@ inner s t (a ∷ x) e q =
     rw (framed-trim a x e) (part_in s (bytes "    ") (a ∷ x) (10 ∷ y) t.start whole)
 
 -- ---- which simulation command is open, by its number
-open_is : (o : Open) (k : SimulationCommand) → is_open o k ≡ true → o ≡ Open.Of k
+open_is : (o : Option SimulationCommand) (k : SimulationCommand) → is_open o k ≡ true → o ≡ Some k
 unfolding is_open
-open_is Open.None k e = absurd (false≢true e)
-open_is (Open.Of j) k e = ap Open.Of (same sim-order j k (eqb-true (sim_number j) (sim_number k) e))
+open_is None k e = absurd (false≢true e)
+open_is (Some j) k e = ap Some (same sim-order j k (eqb-true (sim_number j) (sim_number k) e))
 
 module _ (s g r : List ℕ) (c e : Cursor) (v : Valid s c) (p : all_blank g ≡ true) where
   -- ---- one word
@@ -119,7 +119,7 @@ module _ (s g r : List ℕ) (c e : Cursor) (v : Valid s c) (p : all_blank g ≡ 
   remark-means version t = refl
 
   remark-text : (k : Remark) (x : List ℕ) (d : Cursor) → valid_utf8 x ≡ true → is_trimmed x ≡ true → holds end_mark x ≡ false
-      → Before s d ((bytes "    " ++ x) ++ bytes "\n$end") r e → says s (run (remark_plan k) s d) ≡ said (remark k x) e
+      → Before s d ((bytes "    " ++ x) ++ bytes "\n$end") r e → says s (next_of (run (remark_plan k) s d)) ≡ said (remark k x) e
   unfolding holds has starts
   remark-text k x d u z n a =
       by-text s r e _ d _ (bytes "    " ++ x) 10 [] a n refl
@@ -174,7 +174,7 @@ module _ (s g r : List ℕ) (c e : Cursor) (v : Valid s c) (p : all_blank g ≡ 
 
   var-part : (k : VarType) (n : ℕ) (i : IdCode) (x : List ℕ) (y : Said) (l : List ℕ) → n < 2 ^ 32 → is_id i ≡ true → i.0 < 2 ^ 64 → is_name x ≡ true
       → Before s c (g ++ (bytes "$var " ++ (bytes (var_name k) ++ (bytes " " ++ (decimal_of n ++ (bytes " " ++ (id_text i.0 ++ (bytes " " ++ (x ++ (bytes " " ++ l)))))))))) r e
-      → ((t : Text) (d : Cursor) → part s t ≡ x → Before s d l r e → says s (run (var_end (named k n i t)) s d) ≡ y) → says s (next_from s c) ≡ y
+      → ((t : Text) (d : Cursor) → part s t ≡ x → Before s d l r e → says s (next_of (run (var_end (named k n i t)) s d)) ≡ y) → says s (next_from s c) ≡ y
   unfolding lookup equal is_blank is_token no_blank is_name
   var-part k n i x y l b f z o h next =
       let m = plain-name (bytes (var_name k)) (var-names.like k) in
@@ -195,13 +195,13 @@ module _ (s g r : List ℕ) (c e : Cursor) (v : Valid s c) (p : all_blank g ≡ 
       λ t d q a. next t d q a)))
 
   -- the last token
-  var-last : (m : Meaning) (k : Command) (d : Cursor) → meaning s k ≡ m → Before s d (bytes "$end\n") r e → says s (run (a_word (most 32) (λ u l. last_of k l)) s d) ≡ said m e
+  var-last : (m : Meaning) (k : Command) (d : Cursor) → meaning s k ≡ m → Before s d (bytes "$end\n") r e → says s (next_of (run (a_word (most 32) (λ u l. last_of k l)) s d)) ≡ said m e
   unfolding equal is_blank is_token no_blank
   var-last m k d q a = by_word s r e _ d (most 32) _ end_mark 10 [] a refl refl (omega arith) end-valid λ t d q' a. by_answer s r e m k q d a
 
   -- an index, and the last token
   var-index : (m : Meaning) (y : Var) (x : ReferenceIndex) (d : Cursor) → Given x → SizedIndex x → meaning s (var_command y x) ≡ m
-      → Before s d (index_text x ++ bytes " $end\n") r e → says s (run (var_end y) s d) ≡ said m e
+      → Before s d (index_text x ++ bytes " $end\n") r e → says s (next_of (run (var_end y) s d)) ≡ said m e
   unfolding is_blank
   var-index m y x d given sized q a =
       let w = plain (index_text x) (index-some x given) (omega (arith, index-length x sized)) (index-plain x) in

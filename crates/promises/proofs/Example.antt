@@ -1,4 +1,5 @@
 -- A run of eleven calls, three of them refused and a header stopped half-way, computed: what is written and accepted; and that it reads back. Assumes nothing.
+use Rattle.std.specs.Prelude.{Some, None}
 use Prim.Native.Nat.{ℕ, ◌^◌}
 use mathlib.Core.Path.{◌≡◌, refl}
 use mathlib.Core.Bool.{Bool, true, ◌&&◌}
@@ -32,7 +33,6 @@ use Rattle.header.specs.Header.{nothing, with_timescale}
 use Rattle.rows.specs.Rows.{parent_of, signed_of, is_index, index_of, listed, all_zero, row_of, row_at, words_of, rows_from}
 use Rattle.scope.specs.Numbers.{scope_type_of, var_type_of}
 use Rattle.header.specs.declared.Header.{Header}
-use Rattle.rows.specs.declared.Parent.{Parent}
 use Rattle.rows.specs.declared.Row.{Row}
 use Rattle.write_check.specs.Check.{is_trimmed, is_remark, is_name, are_lower, is_vector}
 use Rattle.write.specs.Call.{outcome, call}
@@ -70,8 +70,8 @@ table : List ℕ
 unfolding words_of
 table =
     words_of
-    (Row.Comment Parent.Top (at 9 2) ∷ Row.Scope Parent.Top ScopeType.Module (at 0 3)
-    ∷ Row.Var (Parent.Of (record { 0 = 1 })) (record { var_type = VarType.Wire; size = 2; code = id 7; reference = at 4 4; index = index }) ∷ [])
+    (Row.Comment None (at 9 2) ∷ Row.Scope None ScopeType.Module (at 0 3)
+    ∷ Row.Var (Some (record { 0 = 1 })) (record { var_type = VarType.Wire; size = 2; code = id 7; reference = at 4 4; index = index }) ∷ [])
 
 abbrev kept : Header
 kept = with_timescale nothing 1 TimescaleUnit.NS

@@ -1,4 +1,7 @@
 -- What a listing holds, in the words of the demand: from the laws of `listing`, over the commands that are read. Assumes nothing.
+use Rattle.command.specs.Refusals.{Ended}
+use Rattle.std.specs.Prelude.{Option, None, Ok, Err}
+use Rattle.command.specs.declared.Time.{Time}
 use Prim.Native.Nat.{ℕ, zero, suc, ◌+◌, ◌-◌, ◌*◌, ◌/◌, ◌≤◌, ◌<◌}
 use mathlib.Core.Path.{◌≡◌, refl, sym, ap, subst, ◌∙◌}
 use mathlib.Core.Bool.{true, false≢true}
@@ -15,16 +18,14 @@ use Rattle.idcode.specs.declared.IdCode.{IdCode}
 use Rattle.token.specs.Read.{bit}
 use Rattle.token.specs.declared.Cursor.{Cursor}
 use Rattle.parser.specs.Next.{next_from}
-use Rattle.parser_part.specs.declared.Next.{Next}
+use Rattle.parser.specs.declared.Next.{Next}
 use Rattle.parser.proofs.All.{less-left}
 use Rattle.list_step.specs.Step.{Role, time, change, other, role_of}
 use Rattle.listing.specs.Listing.{since_after, Entry, rows_in, list_in}
 use Rattle.change.specs.Rows.{words_of}
 use Rattle.change.proofs.Table.{all-length, row-at}
-use Rattle.listing.specs.declared.Ended.{Ended}
 use Rattle.change.specs.declared.Change.{Change}
 use Rattle.change.specs.declared.ChangeKind.{ChangeKind}
-use Rattle.change.specs.declared.Since.{Since}
 use Rattle.listing.proofs.Complete.{firsts, complete, Way, count_of, last_time as time_of, each-change, full-there, ends-refused, ends-whole}
 use Rattle.listing.proofs.Listed.{ahead}
 use Rattle.promises.specs.Listed.{Step, Steps, Stops, role_in, is_of, count, last_time, HoldsOn}
@@ -44,8 +45,8 @@ stops_at s (suc n) c h = go (next_from s c) refl (λ d. stops_at s n d)
         let less = less-left s c d k q in
         let r = ih d (omega arith) in
         (record { from = c; what = k; to = d } ∷ r.0, r.1, r.2, r.3, (refl, q, r.4), r.5)
-    go (Next.Refused e l f) q ih = ([], c, Ended.Refused e l, f, refl, q)
-    go (Next.Done f) q ih = ([], c, Ended.Whole, f, refl, q)
+    go (Next.Refused e l f) q ih = ([], c, Err (e, l), f, refl, q)
+    go (Next.Done f) q ih = ([], c, (Ok tt), f, refl, q)
 
 pub reading-stops : ReadingStops
 unfolding Stopping
@@ -65,7 +66,7 @@ count-is : (s : List ℕ) (i : IdCode) (xs : List Step) → count_of i (map (rol
 count-is s i [] = refl
 count-is s i (x ∷ xs) = count-told i (role_in s x) (map (role_in s) xs) ∙ ap (λ (n : ℕ). bit (is_of i (role_in s x)) + n) (count-is s i xs)
 
-time-is : (s : List ℕ) (t : Since) (xs : List Step) → time_of t (map (role_in s) xs) ≡ last_time s t xs
+time-is : (s : List ℕ) (t : Option Time) (xs : List Step) → time_of t (map (role_in s) xs) ≡ last_time s t xs
 time-is s t [] = refl
 time-is s t (x ∷ xs) = time-is s (since_after t (role_in s x)) xs
 
@@ -119,7 +120,7 @@ find s i (x ∷ xs) (suc n) h =
     (λ e. let b : bit (is_of i (role_in s x)) ≡ 0 = rw e in later s i (suc n) (suc n) x xs (omega arith) (find s i xs (suc n) (omega arith)))
 
 -- ---- a change's row
-module _ (s : List ℕ) (c : Cursor) (t : Since) (i : IdCode) (xs : List Step) (d : Cursor) (w : Steps s c xs d) where
+module _ (s : List ℕ) (c : Cursor) (t : Option Time) (i : IdCode) (xs : List Step) (d : Cursor) (w : Steps s c xs d) where
   abbrev all : List Change
   all = rows_in (ahead s i c t)
 
@@ -152,7 +153,7 @@ module _ (s : List ℕ) (c : Cursor) (t : Since) (i : IdCode) (xs : List Step) (
       omega (arith, longer r.0 b.later r.1 b.kind b.value b.splits b.is, b.before)
 
 -- ---- what is held, by the rows that are made
-module _ (s : List ℕ) (c : Cursor) (t : Since) (i : IdCode) (table : List ℕ) where
+module _ (s : List ℕ) (c : Cursor) (t : Option Time) (i : IdCode) (table : List ℕ) where
   abbrev made : List Change
   made = (list_in s c t i (length table / 6)).rows
 
@@ -174,7 +175,7 @@ module _ (s : List ℕ) (c : Cursor) (t : Since) (i : IdCode) (table : List ℕ)
       }
 
 -- ---- enough room
-module _ (s : List ℕ) (c : Cursor) (t : Since) (i : IdCode) (xs : List Step) (d f : Cursor) (w : Steps s c xs d) where
+module _ (s : List ℕ) (c : Cursor) (t : Option Time) (i : IdCode) (xs : List Step) (d f : Cursor) (w : Steps s c xs d) where
   abbrev Ends : ℕ → Ended → Type 0
   Ends room e =
       (length (list_in s c t i room).rows ≡ count s i xs)
@@ -183,9 +184,9 @@ module _ (s : List ℕ) (c : Cursor) (t : Since) (i : IdCode) (xs : List Step) (
       × ((list_in s c t i room).since ≡ last_time s t xs)
 
   pub ends : (e : Ended) → Stops s d e f → (room : ℕ) → count s i xs ≤ room → Ends room e
-  ends Ended.Whole q room h =
+  ends (Ok tt) q room h =
       rw (count-is s i xs, time-is s t xs) at (ends-whole s i c d t (map (role_in s) xs) (way s c d xs w) room (rw (count-is s i xs) h) f q)
-  ends (Ended.Refused r n) q room h =
+  ends (Err (r, n)) q room h =
       rw (count-is s i xs, time-is s t xs) at (ends-refused s i c d t (map (role_in s) xs) (way s c d xs w) room (rw (count-is s i xs) h) r n f q)
 
   -- the changes among xs are all there are
@@ -202,7 +203,7 @@ listing-on-complete s c t i xs d e f w q table h =
     holds s c t i table xs d e f w h x.0 x.1 x.2 x.3
 
 pub listing-complete : ListingComplete
-listing-complete s c i = listing-on-complete s c Since.None i
+listing-complete s c i = listing-on-complete s c None i
 
 -- ---- too little
 pub listing-on-full : ListingOnFull
@@ -216,10 +217,10 @@ listing-on-full s c t i xs d w table h =
     let o = front s c d ys b.later x (rw b.splits at w) in
     let l : List Change = rows_in (ahead s i c t) in
     let many : n < length l = at_least s c t i xs d w n h in
-    let z : list_in s c t i n ≡ record { rows = take n l; ended = Ended.Refused Refusal.ListFull x.from.line; cursor = x.from; since = last_time s t ys } =
+    let z : list_in s c t i n ≡ record { rows = take n l; ended = Err (Refusal.ListFull, x.from.line); cursor = x.from; since = last_time s t ys } =
     rw (count-is s i ys, time-is s t ys, b.before) at (full-there s i c x.from t (map (role_in s) ys) (way s c x.from ys o.0) x.what x.to b.kind b.value o.1 b.is) in
     let long : length (list_in s c t i n).rows ≡ count s i ys = rw (z, b.before) (length-take-le n l (omega arith)) in
     (ys, x, b, holds s c t i table ys x.from _ _ o.0 (omega (arith, b.before)) long (rw z) (rw z) (rw z))
 
 pub listing_full : ListingFull
-listing_full s c i = listing-on-full s c Since.None i
+listing_full s c i = listing-on-full s c None i

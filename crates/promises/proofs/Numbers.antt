@@ -1,4 +1,6 @@
 -- The numbers of a command that is read are of their types, and so are those of its meaning; those of a record and of a head too. Assumes nothing.
+use Rattle.std.specs.Prelude.{Option, Some, None}
+use Rattle.header.specs.declared.Header.{Header}
 use Prim.Native.Nat.{ℕ, ◌+◌, ◌*◌, ◌/◌, ◌^◌, ◌≤◌, ◌<◌}
 use mathlib.Core.Path.{◌≡◌, refl}
 use mathlib.Core.Bool.{true, ◌&&◌}
@@ -11,21 +13,19 @@ use Rattle.text.proofs.Lists.{by-test, both}
 use Rattle.command.specs.Meaning.{meaning}
 use Rattle.command.specs.declared.Command.{Command}
 use Rattle.token.specs.declared.Cursor.{Cursor}
-use Rattle.parser_part.specs.declared.Next.{Next}
+use Rattle.parser.specs.declared.Next.{Next}
 use Rattle.parser.specs.Next.{next_from}
 use Rattle.parser.proofs.Ranged.{Typed, command-typed}
 use Rattle.rows.specs.Rows.{all_zero, is_index}
 use Rattle.record.specs.Record.{command_in, command_of, words_at, record_at}
 use Rattle.record.specs.Used.{amount_most, is_used}
 use Rattle.record.specs.declared.RecordWords.{RecordWords}
-use Rattle.record.specs.declared.Recorded.{Recorded}
 use Rattle.record.proofs.ByKind.{by_kind}
 use Rattle.record.proofs.Uses.{used}
 use Rattle.write.specs.Run.{Sized}
 use Rattle.write_header.proofs.Takes.{AreWords, word_at}
 use Rattle.write_header.proofs.Takes as takes
 use Rattle.vcd_state.specs.State.{is_kept, is_scale, scale_of, head_of}
-use Rattle.vcd_state.specs.declared.HeadRead.{HeadRead}
 use Rattle.vcd_state.proofs.Taken.{scale_small}
 use Rattle.promises.specs.Runs.{SizedScale}
 
@@ -50,9 +50,9 @@ pub command-sized : (s : List ℕ) (c d : Cursor) (k : Command) → next_from s 
 command-sized s c d k e = sized s k (command-typed s c e)
 
 -- ---- a record
-abbrev pub SizedRecord : List ℕ → Recorded → Type 0
-SizedRecord s (Recorded.Is k) = Sized (meaning s k)
-SizedRecord s Recorded.None = Unit {0}
+abbrev pub SizedRecord : List ℕ → Option Command → Type 0
+SizedRecord s (Some k) = Sized (meaning s k)
+SizedRecord s None = Unit {0}
 
 -- one kind after the other
 abbrev OfKind : List ℕ → ℕ → Type 0
@@ -100,9 +100,9 @@ sized-record s table i x =
     (λ e. rw e tt)
 
 -- ---- a head
-abbrev pub SizedHead : HeadRead → Type 0
-SizedHead (HeadRead.Is h n) = SizedScale h.timescale
-SizedHead HeadRead.Bad = Unit {0}
+abbrev pub SizedHead : Option (Header × ℕ) → Type 0
+SizedHead (Some (h, n)) = SizedScale h.timescale
+SizedHead None = Unit {0}
 
 scale-sized : (h n u : ℕ) → is_scale h n u ≡ true → SizedScale (scale_of h n u)
 unfolding scale_of

@@ -1,5 +1,8 @@
 -- Pages joined are the one listing: from the cursor and the time that stood before a change, a listing goes on as it would have without a
 -- stop. Assumes nothing.
+use Rattle.command.specs.Refusals.{Ended}
+use Rattle.std.specs.Prelude.{Option, Ok, Err}
+use Rattle.command.specs.declared.Time.{Time}
 use Prim.Native.Nat.{ℕ, zero, suc, ◌+◌, ◌*◌, ◌≤◌, ◌<◌}
 use mathlib.Core.Path.{◌≡◌, refl, sym, ap, ◌∙◌}
 use mathlib.Core.Bool.{true, false, true≢false, false≢true}
@@ -10,7 +13,6 @@ use borrow.Author.Tests.{eqb-true, leb-true, leb-false}
 use lib.Dec.{eqb, leb}
 use lib.ListN.{length, take, drop, length-drop}
 use lib.Seq.{drop-drop, take-add}
-use Rattle.change.specs.declared.Since.{Since}
 use Rattle.command.specs.Refusals.{number_of}
 use Rattle.command.specs.declared.Command.{Command}
 use Rattle.command.specs.declared.Refusal.{Refusal}
@@ -18,12 +20,11 @@ use Rattle.idcode.specs.declared.IdCode.{IdCode}
 use Rattle.parser.specs.All.{Commands, command, stop, finish, followed, commands}
 use Rattle.parser.specs.Next.{next_from}
 use Rattle.parser.proofs.All.{commands-step}
-use Rattle.parser_part.specs.declared.Next.{Next}
+use Rattle.parser.specs.declared.Next.{Next}
 use Rattle.text.proofs.Lists.{by-test}
 use Rattle.token.specs.declared.Cursor.{Cursor}
 use Rattle.list_step.specs.Step.{Role, time, change, other, role_of}
 use Rattle.listing.specs.Listing.{Entry, entries, since_after, changes, stop_of, last_of, time_of, Outcome, rows_in, cut, list_in}
-use Rattle.listing.specs.declared.Ended.{Ended}
 use Rattle.listing.proofs.Complete.{complete}
 use Rattle.listing.proofs.Listed.{ahead, rows_join}
 use Rattle.promises.specs.Listed.{Stops, joined, is_full, paged}
@@ -43,7 +44,7 @@ after s c d k more w = go (next_from s c) (sym (commands-step s c) ∙ w)
     go (Next.Refused r n b) g = let z : ◌≡◌ {A = ℕ} 0 1 = cc in absurd (omega arith)
     go (Next.Done b) g = let z : ◌≡◌ {A = ℕ} 0 1 = cc in absurd (omega arith)
 
-module _ (s : List ℕ) (i : IdCode) (e : Ended) (d : Cursor) (u : Since) where
+module _ (s : List ℕ) (i : IdCode) (e : Ended) (d : Cursor) (u : Option Time) where
   -- a listing from before the first of these changes has them all, and ends so
   abbrev Resumes : List Entry → Type 0
   Resumes [] = Unit {0}
@@ -66,7 +67,7 @@ module _ (s : List ℕ) (i : IdCode) (e : Ended) (d : Cursor) (u : Since) where
   rests-cons x xs r f (suc n) = f n
 
   -- by what the next command is
-  step : (c b : Cursor) (t : Since) (x : Role) (xs : List Entry)
+  step : (c b : Cursor) (t : Option Time) (x : Role) (xs : List Entry)
       → ahead s i c t ≡ entries i c t b.line x ++ xs
       → stop_of (commands s c) ≡ e → last_of (commands s c) ≡ d → time_of s c t (commands s c) ≡ u
       → Rests xs → Rests (entries i c t b.line x ++ xs)
@@ -79,7 +80,7 @@ module _ (s : List ℕ) (i : IdCode) (e : Ended) (d : Cursor) (u : Since) where
       (λ g. rw g f)
   step c b t other xs w p q r f = f
 
-  rests : (cs : Commands) (c : Cursor) (t : Since) → commands s c ≡ cs → stop_of cs ≡ e → last_of cs ≡ d → time_of s c t cs ≡ u
+  rests : (cs : Commands) (c : Cursor) (t : Option Time) → commands s c ≡ cs → stop_of cs ≡ e → last_of cs ≡ d → time_of s c t cs ≡ u
       → Rests (changes s i c t cs)
   unfolding changes stop_of last_of time_of
   rests (stop r n b) c t w p q v = rests-nil
@@ -110,7 +111,7 @@ module _ (s : List ℕ) (i : IdCode) (e : Ended) (d : Cursor) (u : Since) where
   page-on made (x ∷ xs) m r l = (r.0, rw (resumed x xs m r) (cut-joined made (take m (x ∷ xs)) (drop m (x ∷ xs))))
 
 -- ---- n rows, and m rows more
-module _ (s : List ℕ) (i : IdCode) (c : Cursor) (t : Since) (n : ℕ) (more : n < length (ahead s i c t)) where
+module _ (s : List ℕ) (i : IdCode) (c : Cursor) (t : Option Time) (n : ℕ) (more : n < length (ahead s i c t)) where
   abbrev all : List Entry
   all = ahead s i c t
 
@@ -128,10 +129,10 @@ module _ (s : List ℕ) (i : IdCode) (c : Cursor) (t : Since) (n : ℕ) (more : 
       (p.0, p.1 ∙ rw (← take-add n m all, drop-drop m n all))
 
 -- ---- 24 says that there are more changes than rows, and is given then
-module _ (s : List ℕ) (i : IdCode) (c : Cursor) (t : Since) (n : ℕ) where
+module _ (s : List ℕ) (i : IdCode) (c : Cursor) (t : Option Time) (n : ℕ) where
   not-reading : (e : Ended) (d f : Cursor) → Stops s d e f → is_full e ≡ false
-  not-reading Ended.Whole d f q = refl
-  not-reading (Ended.Refused r l) d f q =
+  not-reading (Ok tt) d f q = refl
+  not-reading (Err (r, l)) d f q =
       by-test (eqb (number_of r) 24)
       (λ h.
       let m : number_of r ≡ 24 = eqb-true _ _ h in
@@ -159,15 +160,15 @@ module _ (s : List ℕ) (i : IdCode) (c : Cursor) (t : Since) (n : ℕ) where
   by-room : {A : Type 0} → (n < length (ahead s i c t) → A) → (length (ahead s i c t) ≤ n → A) → A
   by-room p q = by-test (leb (length (ahead s i c t)) n) (λ e. q (leb-true _ _ e)) (λ e. p (leb-false _ _ e))
 
-  more : (line : ℕ) → (list_in s c t i n).ended ≡ Ended.Refused Refusal.ListFull line → n < length (ahead s i c t)
+  more : (line : ℕ) → (list_in s c t i n).ended ≡ Err (Refusal.ListFull, line) → n < length (ahead s i c t)
   more line e = by-room (λ h. h) (λ h. let z : true ≡ false = rw e at (few-ends h) in absurd (true≢false z))
 
 -- any number of pages
-same : (s : List ℕ) (c : Cursor) (t : Since) (i : IdCode) (m k : ℕ) → length (ahead s i c t) ≤ m → length (ahead s i c t) ≤ k
+same : (s : List ℕ) (c : Cursor) (t : Option Time) (i : IdCode) (m k : ℕ) → length (ahead s i c t) ≤ m → length (ahead s i c t) ≤ k
     → list_in s c t i m ≡ list_in s c t i k
 same s c t i m k p q = complete s c t i m p ∙ sym (complete s c t i k q)
 
-pages : (s : List ℕ) (i : IdCode) (n k : ℕ) (c : Cursor) (t : Since) → paged s i n k c t ≡ list_in s c t i (n * suc k)
+pages : (s : List ℕ) (i : IdCode) (n k : ℕ) (c : Cursor) (t : Option Time) → paged s i n k c t ≡ list_in s c t i (n * suc k)
 unfolding paged
 pages s i n zero c t = ap (list_in s c t i) (sym (mul-one n))
 pages s i n (suc k) c t =

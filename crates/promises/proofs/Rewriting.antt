@@ -1,4 +1,7 @@
 -- A command that was read, and that the writer accepts, is read again from what was written. Assumes nothing.
+use Rattle.text.proofs.Pairs.{first, second, ok_pair}
+use Rattle.std.specs.Prelude.{Ok, Result}
+use Rattle.command.specs.declared.Refusal.{Refusal}
 use Prim.Native.Nat.{ℕ}
 use mathlib.Core.Path.{◌≡◌, refl, sym, ap, ◌∙◌}
 use mathlib.Core.Bool.{Bool, true, false}
@@ -14,7 +17,6 @@ use Rattle.token.proofs.Reading.{sim-after}
 use Rattle.write.specs.Call.{outcome, misplaced, call}
 use Rattle.write.specs.Layout.{layout, writable, state_after}
 use Rattle.write.specs.declared.Writer.{Writer}
-use Rattle.write.specs.declared.Written.{Written}
 use Rattle.promises.specs.Stated.{core, Rewritten, RewrittenCall}
 use Rattle.promises.proofs.Numbers.{command-sized}
 use Rattle.promises.proofs.WrittenRead.{one-back}
@@ -28,16 +30,16 @@ record Accepts (ok : Bool) (w v : Writer) (b : List ℕ) (n : ℕ) (left : List 
   bytes : take n left ≡ b
   state : v ≡ w
 
-accepts : (out ok : Bool) (w v : Writer) (b o : List ℕ) (n : ℕ) → (outcome out ok w b o).answer ≡ Written.Bytes n v → Accepts ok w v b n (outcome out ok w b o).left
+accepts : (out ok : Bool) (w v : Writer) (b o : List ℕ) (n : ℕ) → (outcome out ok w b o).answer ≡ Ok (n, v) → Accepts ok w v b n (outcome out ok w b o).left
 unfolding outcome put_answer put_bytes
 accepts true ok w v b o n e = absurd (let z : ◌≡◌ {A = ℕ} 0 1 = cc in omega arith)
 accepts false false w v b o n e = absurd (let z : ◌≡◌ {A = ℕ} 0 1 = cc in omega arith)
 accepts false true w v b o n e =
     by-test (leb (length b) (length o))
     (λ q.
-    let f : Written.Bytes (length b) w ≡ Written.Bytes n v = rw q at e in
-    let long : length b ≡ n = cc in
-    let same : w ≡ v = cc in
+    let f : ◌≡◌ {A = Result (ℕ × Writer) Refusal} (Ok (length b, w)) (Ok (n, v)) = rw q at e in
+    let long : length b ≡ n = first (ok_pair f) in
+    let same : w ≡ v = second (ok_pair f) in
     rw q (record { might = refl; bytes = rw (← long) (take-append_seam b (drop (length b) o)); state = sym same }))
     (λ q. absurd (let f = rw q at e in let z : ◌≡◌ {A = ℕ} 0 1 = cc in omega arith))
 

@@ -1,4 +1,6 @@
 -- What a run writes is the layouts of the accepted commands, joined, and each of them was writable in its turn; so it reads back. Assumes nothing.
+use Rattle.std.specs.Prelude.{Option, Some, None, Result, Ok, Err}
+use Rattle.timescale.specs.declared.TimescaleUnit.{TimescaleUnit}
 use Prim.Native.Nat.{ℕ, zero, suc, ◌+◌, ◌-◌, ◌^◌, ◌≤◌, ◌<◌}
 use mathlib.Core.Path.{◌≡◌, refl, sym, ap, ap₂, subst, ◌∙◌}
 use mathlib.Core.Bool.{Bool, true, false, cond, not, ◌&&◌}
@@ -15,31 +17,24 @@ use Rattle.command.specs.Refusals.{number_of}
 use Rattle.command.specs.declared.Command.{Command}
 use Rattle.command.specs.declared.Refusal.{Refusal}
 use Rattle.token.specs.declared.Cursor.{Cursor}
-use Rattle.parser_part.specs.declared.Next.{Next}
+use Rattle.parser.specs.declared.Next.{Next}
 use Rattle.parser.specs.Next.{next_from, fresh as start}
 use Rattle.parser.specs.All.{followed, commands_on, commands, read_all, exactly}
 use Rattle.rows.specs.Rows.{rows_of}
 use Rattle.record.specs.Record.{record_at}
-use Rattle.record.specs.declared.Recorded.{Recorded}
 use Rattle.header.specs.declared.Header.{Header}
-use Rattle.header.specs.declared.KeptTimescale.{KeptTimescale}
 use Rattle.write_check.specs.Check.{is_name}
 use Rattle.write.specs.Call.{Outcome, outcome, misplaced, call, new_var}
 use Rattle.write.specs.Layout.{layout, is_id, raised, writable, state_after, fresh}
 use Rattle.write.specs.Run.{layouts, states_after, Sized, AllSized, Accepted, taken}
 use Rattle.write.specs.declared.Writer.{Writer}
-use Rattle.write.specs.declared.Written.{Written}
 use Rattle.lent_writer.specs.Lent.{lent_answer, lent_state}
 use Rattle.write_header.specs.Meanings.{header_meanings}
 use Rattle.write_header.specs.Written.{Outcome as HeaderOutcome, header_call}
-use Rattle.write_header.specs.declared.HeaderWritten.{HeaderWritten}
 use Rattle.write_header.proofs.Takes.{Takes, AreWords, KeptSized, refused, accepted, header-takes, header-all, sized-header}
 use Rattle.rewrite.specs.Rewrite.{Outcome as Rewriting, meanings_in, rewrite_of, filled}
 use Rattle.rewrite.proofs.Taken.{rewrite-takes}
 use Rattle.vcd_state.specs.State.{writer_words, cursor_of, head_of}
-use Rattle.vcd_state.specs.declared.CursorRead.{CursorRead}
-use Rattle.vcd_state.specs.declared.HeadRead.{HeadRead}
-use Rattle.vcd_state.specs.declared.WriterRead.{WriterRead}
 use Rattle.vcd_state.proofs.Back.{writer-back}
 use Rattle.write_calls.specs.Writing.{WriteLeft, wrote_command, command_on, command_call, wrote_header, head_on, write_header_call, RewriteLeft, rewrite_kept, rewritten, rewrite_on, rewrite_call}
 use Rattle.promises.specs.Runs.{Effect, Ran, ran, SizedTable, SizedScale, Call, single, lent, adding, header, rewriting, gives, single_gives, lent_gives, header_taken, header_gives, rewrite_taken, effect_of, runs, LibraryCall, vcd_command, vcd_write_header, vcd_rewrite, on_head, on_cursor, left_gives, record_taken, library_effect, library_runs}
@@ -91,10 +86,10 @@ taken-each w room (m ∷ ms) z =
     by-test (writable w m && leb (length (layout m)) room) (λ q. rw q ((both _ _ q).0, z.0, ih)) (λ q. rw q tt)
 
 -- a header: what it took
-header-gives : (w : Writer) (o : List ℕ) (l : List Meaning) (r : HeaderWritten) (left : List ℕ) → Takes w o l (record { answer = r; left = left }) → Accepted w l
+header-gives : (w : Writer) (o : List ℕ) (l : List Meaning) (r : Result (ℕ × Writer) (Refusal × ℕ × Writer)) (left : List ℕ) → Takes w o l (record { answer = r; left = left }) → Accepted w l
     → ByValue w (header_gives l r left)
-header-gives w o l (HeaderWritten.Bytes n v) left x a = record { bytes = rw (x.leaves, x.counts) (take-append_seam (layouts l) _); each = a; state = x.state }
-header-gives w o l (HeaderWritten.Refused e n v) left x a = record { bytes = rw (x.leaves, x.counts) (take-append_seam (layouts l) _); each = a; state = x.state }
+header-gives w o l (Ok (n, v)) left x a = record { bytes = rw (x.leaves, x.counts) (take-append_seam (layouts l) _); each = a; state = x.state }
+header-gives w o l (Err (e, n, v)) left x a = record { bytes = rw (x.leaves, x.counts) (take-append_seam (layouts l) _); each = a; state = x.state }
 
 taken-or : (off : Bool) (w : Writer) (room : ℕ) (ms : List Meaning) → AllSized ms → Accepted w (cond off [] (taken w room ms))
 taken-or true w room ms z = tt
@@ -105,18 +100,18 @@ words_are : (table : List ℕ) → SizedTable table → AreWords table
 words_are [] z = tt
 words_are (w ∷ table) z = (z.0, words_are table z.1)
 
-scale-is : (t : KeptTimescale) → SizedScale t → KeptSized t
-scale-is KeptTimescale.None z = tt
-scale-is (KeptTimescale.Is n u) z = z
+scale-is : (t : Option (ℕ × TimescaleUnit)) → SizedScale t → KeptSized t
+scale-is None z = tt
+scale-is (Some (n, u)) z = z
 
 single-gave : (w : Writer) (src : List ℕ) (k : Command) (out : List ℕ) → Sized (meaning src k) → ByValue w (single_gives w src k out)
 unfolding call
 single-gave w src k out z = let m : Meaning = meaning src k in one-gave (misplaced src k) (writable w m) w m out refl z
 
 -- a lent state changes nothing of it
-lent-gave : (w : Writer) (m : Meaning) (r : Written) (o : List ℕ) → ByValue w (gives w m r o) → ByValue w (lent_gives m (lent_answer r) (lent_state w r) o)
-lent-gave w m (Written.Bytes n v) o x = x
-lent-gave w m (Written.Refused e) o x = x
+lent-gave : (w : Writer) (m : Meaning) (r : Result (ℕ × Writer) Refusal) (o : List ℕ) → ByValue w (gives w m r o) → ByValue w (lent_gives m (lent_answer r) (lent_state w r) o)
+lent-gave w m (Ok (n, v)) o x = x
+lent-gave w m (Err e) o x = x
 
 header-gave : (w : Writer) (src : List ℕ) (h : Header) (table : List ℕ) (n : ℕ) (out : List ℕ) → SizedTable table → SizedScale h.timescale
     → let x : HeaderOutcome = header_call w src h table n out in
@@ -161,9 +156,9 @@ gave w (adding k width t x src out z y) h = single-gave w src (new_var w k width
 gave w (header src k table n out z y) h = header-gave w src k table n out z y
 gave w (rewriting src c out) h = rewrite-gave Writer itself w src c out
 
-given : (ms : List Meaning) (r : HeaderWritten) (o : List ℕ) → (header_gives ms r o).accepted ≡ ms
-given ms (HeaderWritten.Bytes n v) o = refl
-given ms (HeaderWritten.Refused e n v) o = refl
+given : (ms : List Meaning) (r : Result (ℕ × Writer) (Refusal × ℕ × Writer)) (o : List ℕ) → (header_gives ms r o).accepted ≡ ms
+given ms (Ok (n, v)) o = refl
+given ms (Err (e, n, v)) o = refl
 
 pub header-whole : HeaderWhole
 unfolding effect_of
@@ -255,32 +250,32 @@ refused-number Refusal.ListFull = refl
 refused-number Refusal.BadPlace = refl
 
 -- a record's command, whatever the writer answers
-answer-gave : (w : Writer) (src : List ℕ) (k : Command) (r : Written) (o : List ℕ) → ByValue w (gives w (meaning src k) r o)
-    → let x : WriteLeft = wrote_command (writer_words w) 0 r o in ByWords w (left_gives (record_taken src (Recorded.Is k) x.status) x)
+answer-gave : (w : Writer) (src : List ℕ) (k : Command) (r : Result (ℕ × Writer) Refusal) (o : List ℕ) → ByValue w (gives w (meaning src k) r o)
+    → let x : WriteLeft = wrote_command (writer_words w) 0 r o in ByWords w (left_gives (record_taken src (Some k) x.status) x)
 unfolding layouts states_after
-answer-gave w src k (Written.Bytes n v) o x = record { bytes = x.bytes; each = x.each; state = ap writer_words x.state }
-answer-gave w src k (Written.Refused e) o x = rw (refused-number e) (record { bytes = refl; each = tt; state = refl })
+answer-gave w src k (Ok (n, v)) o x = record { bytes = x.bytes; each = x.each; state = ap writer_words x.state }
+answer-gave w src k (Err e) o x = rw (refused-number e) (record { bytes = refl; each = tt; state = refl })
 
-record-gave : (w : Writer) (src out : List ℕ) (r : Recorded) → SizedRecord src r
+record-gave : (w : Writer) (src out : List ℕ) (r : Option Command) → SizedRecord src r
     → let x : WriteLeft = command_on (writer_words w) src out 0 w r in ByWords w (left_gives (record_taken src r x.status) x)
 unfolding layouts states_after
-record-gave w src out (Recorded.Is k) z =
+record-gave w src out (Some k) z =
     let x : Outcome = call w src k out in
     answer-gave w src k x.answer x.left (single-gave w src k out z)
-record-gave w src out Recorded.None z = record { bytes = refl; each = tt; state = refl }
+record-gave w src out None z = record { bytes = refl; each = tt; state = refl }
 
-head-gives : (w : Writer) (l : List Meaning) (r : HeaderWritten) (o : List ℕ) → ByValue w (header_gives l r o) → ByWords w (left_gives l (wrote_header r o))
-head-gives w l (HeaderWritten.Bytes n v) o x = record { bytes = x.bytes; each = x.each; state = ap writer_words x.state }
-head-gives w l (HeaderWritten.Refused e n v) o x = record { bytes = x.bytes; each = x.each; state = ap writer_words x.state }
+head-gives : (w : Writer) (l : List Meaning) (r : Result (ℕ × Writer) (Refusal × ℕ × Writer)) (o : List ℕ) → ByValue w (header_gives l r o) → ByWords w (left_gives l (wrote_header r o))
+head-gives w l (Ok (n, v)) o x = record { bytes = x.bytes; each = x.each; state = ap writer_words x.state }
+head-gives w l (Err (e, n, v)) o x = record { bytes = x.bytes; each = x.each; state = ap writer_words x.state }
 
-head-gave : (w : Writer) (src table out : List ℕ) (r : HeadRead) → SizedTable table → SizedHead r
+head-gave : (w : Writer) (src table out : List ℕ) (r : Option (Header × ℕ)) → SizedTable table → SizedHead r
     → ByWords w
     (left_gives (on_head (λ h n. header_taken w src h (rows_of table n) (length out)) r) (head_on (writer_words w) src table out 0 w r))
 unfolding layouts states_after
-head-gave w src table out (HeadRead.Is h n) z y =
+head-gave w src table out (Some (h, n)) z y =
     let x : HeaderOutcome = header_call w src h table n out in
     head-gives w (header_taken w src h (rows_of table n) (length out)) x.answer x.left (header-gave w src h table n out z y)
-head-gave w src table out HeadRead.Bad z y = record { bytes = refl; each = tt; state = refl }
+head-gave w src table out None z y = record { bytes = refl; each = tt; state = refl }
 
 library-gave : (w : Writer) (c : LibraryCall) → w.id.0 < 2 ^ 64 → ByWords w (library_effect (writer_words w) c)
 unfolding library_effect command_call write_header_call rewrite_call layouts states_after
@@ -291,10 +286,10 @@ library-gave w (vcd_command src words out z) h =
 library-gave w (vcd_write_header src head table out z) h = rw (writer-back w) (head-gave w src table out (head_of head) z (sized-head head))
 library-gave w (vcd_rewrite src cursor out line) h = rw (writer-back w) (go (cursor_of cursor))
   where
-    go : (r : CursorRead) → let x : RewriteLeft = rewrite_on (rewritten src out line) (rewrite_kept cursor (writer_words w) out 0 line) r (WriterRead.Is w) in
+    go : (r : Option Cursor) → let x : RewriteLeft = rewrite_on (rewritten src out line) (rewrite_kept cursor (writer_words w) out 0 line) r (Some w) in
         ByWords w (record { bytes = take x.count x.output; accepted = on_cursor (λ c. rewrite_taken w src c (length out)) r; state = x.writer })
-    go (CursorRead.Is c) = rewrite-gave (List ℕ) writer_words w src c out
-    go CursorRead.Bad = record { bytes = refl; each = tt; state = refl }
+    go (Some c) = rewrite-gave (List ℕ) writer_words w src c out
+    go None = record { bytes = refl; each = tt; state = refl }
 
 pub library-accepted : LibraryAccepted
 library-accepted w cs h = joined (List ℕ) LibraryCall writer_words library_effect library-gave w cs h

@@ -1,5 +1,7 @@
 -- A listing in the words of the demand: the commands that are read from a cursor on, and which of them are changes of a code.
-use Rattle.std.specs.Prelude.{ℕ, zero, suc, ◌+◌, ◌*◌, ◌≡◌, Bool, false, cond, List, [], ◌∷◌, ◌++◌, eqb, drop}
+use Rattle.command.specs.Refusals.{Ended}
+use Rattle.command.specs.declared.Time.{Time}
+use Rattle.std.specs.Prelude.{ℕ, zero, suc, ◌+◌, ◌*◌, ◌≡◌, Bool, false, cond, List, [], ◌∷◌, ◌++◌, eqb, drop, Option, None, Ok, Err}
 use Rattle.text.specs.declared.Text.{Text}
 use Rattle.idcode.specs.declared.IdCode.{IdCode}
 use Rattle.command.specs.Refusals.{number_of}
@@ -7,14 +9,12 @@ use Rattle.command.specs.declared.Command.{Command}
 use Rattle.token.specs.Read.{bit}
 use Rattle.token.specs.declared.Cursor.{Cursor}
 use Rattle.parser.specs.Next.{next_from}
-use Rattle.parser_part.specs.declared.Next.{Next}
+use Rattle.parser.specs.declared.Next.{Next}
 use Rattle.list_step.specs.Step.{Role, time, change, other, role_of}
 use Rattle.listing.specs.Listing.{since_after, Outcome, list_in, list_on_of, answer_of}
 use Rattle.change.specs.Rows.{change_at, filled}
-use Rattle.listing.specs.declared.Ended.{Ended}
 use Rattle.change.specs.declared.Change.{Change}
 use Rattle.change.specs.declared.ChangeKind.{ChangeKind}
-use Rattle.change.specs.declared.Since.{Since}
 
 -- a command that is read, with the cursors before and after it
 pub record Step : Type 0 where
@@ -29,8 +29,8 @@ Steps s c (x ∷ xs) d = (c ≡ x.from) × (next_from s c ≡ Next.Command x.wha
 
 -- there reading stops: at the end, or by a refusal and the line of it
 abbrev pub Stops : List ℕ → Cursor → Ended → Cursor → Type 0
-Stops s d Ended.Whole f = next_from s d ≡ Next.Done f
-Stops s d (Ended.Refused e n) f = next_from s d ≡ Next.Refused e n f
+Stops s d (Ok tt) f = next_from s d ≡ Next.Done f
+Stops s d (Err (e, n)) f = next_from s d ≡ Next.Refused e n f
 
 -- a time, a change with the kind and the place of its value, or nothing to a listing
 abbrev pub role_in : List ℕ → Step → Role
@@ -47,12 +47,12 @@ count s i [] = 0
 count s i (x ∷ xs) = bit (is_of i (role_in s x)) + count s i xs
 
 -- the last timestamp among them; t, if there is none
-abbrev pub last_time : List ℕ → Since → List Step → Since
+abbrev pub last_time : List ℕ → Option Time → List Step → Option Time
 last_time s t [] = t
 last_time s t (x ∷ xs) = last_time s (since_after t (role_in s x)) xs
 
 -- The listing of the code i from c, where t was the last time, into a table: it holds exactly the changes among xs, and ends as e at f.
-pub record HoldsOn (s : List ℕ) (c : Cursor) (t : Since) (i : IdCode) (table : List ℕ) (xs : List Step) (e : Ended) (f : Cursor) : Type 0 where
+pub record HoldsOn (s : List ℕ) (c : Cursor) (t : Option Time) (i : IdCode) (table : List ℕ) (xs : List Step) (e : Ended) (f : Cursor) : Type 0 where
   -- as many rows as changes; and the last timestamp among xs, or t
   pub answer : answer_of (list_on_of s c t i table) ≡ record { cursor = f; count = count s i xs; ended = e; since = last_time s t xs }
   -- each change has the row after those of the changes before it: with the last timestamp before it, or t, and the reader's line just after it
@@ -63,7 +63,7 @@ pub record HoldsOn (s : List ℕ) (c : Cursor) (t : Since) (i : IdCode) (table :
 
 -- the same of `list`, which starts with no time
 abbrev pub Holds : List ℕ → Cursor → IdCode → List ℕ → List Step → Ended → Cursor → Type 0
-Holds s c i table xs e f = HoldsOn s c Since.None i table xs e f
+Holds s c i table xs e f = HoldsOn s c None i table xs e f
 
 -- ---- pages
 -- two listings, the second from where the first stopped: the rows of both, and the end of the second
@@ -72,11 +72,11 @@ joined a b = record { rows = a.rows ++ b.rows; ended = b.ended; cursor = b.curso
 
 -- is it 24?
 abbrev pub is_full : Ended → Bool
-is_full Ended.Whole = false
-is_full (Ended.Refused e line) = eqb (number_of e) 24
+is_full (Ok tt) = false
+is_full (Err (e, line)) = eqb (number_of e) 24
 
 -- a page of n rows and at most k more, each from the cursor and the time that the one before answered, as long as that was full
-unfoldable pub paged : List ℕ → IdCode → ℕ → ℕ → Cursor → Since → Outcome
+unfoldable pub paged : List ℕ → IdCode → ℕ → ℕ → Cursor → Option Time → Outcome
 paged s i n zero c t = list_in s c t i n
 paged s i n (suc k) c t =
     let a : Outcome = list_in s c t i n in

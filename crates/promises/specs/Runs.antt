@@ -1,6 +1,8 @@
 -- Runs of calls: each at the state that the last one left, and with an output of its own. The file is the accepted bytes joined. The state
 -- is a writer, or the words that a caller of the library keeps.
-use Rattle.std.specs.Prelude.{ℕ, ◌^◌, ◌<◌, cond, not, ◌||◌, List, [], ◌∷◌, ◌++◌, eqb, length, take}
+use Rattle.timescale.specs.declared.TimescaleUnit.{TimescaleUnit}
+use Rattle.command.specs.declared.Refusal.{Refusal}
+use Rattle.std.specs.Prelude.{ℕ, ◌^◌, ◌<◌, cond, not, ◌||◌, List, [], ◌∷◌, ◌++◌, eqb, length, take, Option, Some, None, Result, Ok, Err}
 use Rattle.text.specs.declared.Text.{Text}
 use Rattle.scope.specs.declared.ReferenceIndex.{ReferenceIndex}
 use Rattle.scope.specs.declared.VarType.{VarType}
@@ -12,24 +14,16 @@ use Rattle.rows.specs.Good.{is_good_table}
 use Rattle.rows.specs.Rows.{rows_of}
 use Rattle.rows.specs.declared.Row.{Row}
 use Rattle.record.specs.Record.{record_at}
-use Rattle.record.specs.declared.Recorded.{Recorded}
 use Rattle.header.specs.declared.Header.{Header}
-use Rattle.header.specs.declared.KeptTimescale.{KeptTimescale}
 use Rattle.write.specs.Call.{Outcome as Called, call, new_var}
 use Rattle.scope.specs.Index.{SizedIndex}
 use Rattle.write.specs.Run.{Sized, taken}
 use Rattle.write.specs.declared.Writer.{Writer}
-use Rattle.write.specs.declared.Written.{Written}
 use Rattle.lent_writer.specs.Lent.{lent_answer, lent_state}
-use Rattle.lent_writer.specs.declared.Wrote.{Wrote}
 use Rattle.write_header.specs.Meanings.{header_meanings}
 use Rattle.write_header.specs.Written.{Outcome, misplaced, header_call}
-use Rattle.write_header.specs.declared.HeaderWritten.{HeaderWritten}
 use Rattle.rewrite.specs.Rewrite.{Outcome as Rewriting, meanings_in, rewrite_of, answer_of, filled}
 use Rattle.vcd_state.specs.State.{cursor_of, writer_of, head_of}
-use Rattle.vcd_state.specs.declared.CursorRead.{CursorRead}
-use Rattle.vcd_state.specs.declared.HeadRead.{HeadRead}
-use Rattle.vcd_state.specs.declared.WriterRead.{WriterRead}
 use Rattle.write_calls.specs.Writing.{WriteLeft, RewriteLeft, command_call, write_header_call, rewrite_call}
 
 -- ---- any calls, whatever their state is
@@ -57,9 +51,9 @@ abbrev pub SizedTable : List ℕ → Type 0
 SizedTable [] = Unit {0}
 SizedTable (w ∷ table) = (w < 2 ^ 64) × SizedTable table
 
-abbrev pub SizedScale : KeptTimescale → Type 0
-SizedScale KeptTimescale.None = Unit {0}
-SizedScale (KeptTimescale.Is n u) = n < 2 ^ 32
+abbrev pub SizedScale : Option (ℕ × TimescaleUnit) → Type 0
+SizedScale None = Unit {0}
+SizedScale (Some (n, u)) = n < 2 ^ 32
 
 -- A call: a command, whose texts lie in src; the same with the state lent; a variable with the writer's next id; the first n rows of a
 -- table as a header; or the commands of src from a cursor on, rewritten. `single` is every call with one command of its own, `adding` is
@@ -72,17 +66,17 @@ pub data Call : Type 0 where
   rewriting : (src : List ℕ) (c : Cursor) (out : List ℕ) → Call
 
 -- an accepted command gives as many bytes as it answers, from the start of its output, and the next state; a refused one nothing
-abbrev pub gives : Writer → Meaning → Written → List ℕ → Effect Writer
-gives w m (Written.Bytes n v) o = record { bytes = take n o; accepted = m ∷ []; state = v }
-gives w m (Written.Refused e) o = record { bytes = []; accepted = []; state = w }
+abbrev pub gives : Writer → Meaning → Result (ℕ × Writer) Refusal → List ℕ → Effect Writer
+gives w m (Ok (n, v)) o = record { bytes = take n o; accepted = m ∷ []; state = v }
+gives w m (Err e) o = record { bytes = []; accepted = []; state = w }
 
 abbrev pub single_gives : Writer → List ℕ → Command → List ℕ → Effect Writer
 single_gives w src k out = let x : Called = call w src k out in gives w (meaning src k) x.answer x.left
 
 -- with the state lent: the one that stands there then
-abbrev pub lent_gives : Meaning → Wrote → Writer → List ℕ → Effect Writer
-lent_gives m (Wrote.Bytes n) v o = record { bytes = take n o; accepted = m ∷ []; state = v }
-lent_gives m (Wrote.Refused e) v o = record { bytes = []; accepted = []; state = v }
+abbrev pub lent_gives : Meaning → Result ℕ Refusal → Writer → List ℕ → Effect Writer
+lent_gives m (Ok n) v o = record { bytes = take n o; accepted = m ∷ []; state = v }
+lent_gives m (Err e) v o = record { bytes = []; accepted = []; state = v }
 
 -- the commands that a header's call accepts: none where a text is misplaced (25) or the table is not good (23); else those before the
 -- first that may not be written (22) or has no room (21)
@@ -90,9 +84,9 @@ abbrev pub header_taken : Writer → List ℕ → Header → List Row → ℕ �
 header_taken w src h rs room = cond (misplaced src h rs || not (is_good_table rs)) [] (taken w room (header_meanings src h rs))
 
 -- what a header's call gives, stopped or not: as many bytes as it answers, from the start of its output, and the state that it answers
-abbrev pub header_gives : List Meaning → HeaderWritten → List ℕ → Effect Writer
-header_gives ms (HeaderWritten.Bytes n v) o = record { bytes = take n o; accepted = ms; state = v }
-header_gives ms (HeaderWritten.Refused e n v) o = record { bytes = take n o; accepted = ms; state = v }
+abbrev pub header_gives : List Meaning → Result (ℕ × Writer) (Refusal × ℕ × Writer) → List ℕ → Effect Writer
+header_gives ms (Ok (n, v)) o = record { bytes = take n o; accepted = ms; state = v }
+header_gives ms (Err (e, n, v)) o = record { bytes = take n o; accepted = ms; state = v }
 
 -- the commands that rewriting accepts: of those that are read, the ones before the first that may not be written or has no room
 abbrev pub rewrite_taken : Writer → List ℕ → Cursor → ℕ → List Meaning
@@ -127,28 +121,28 @@ pub data LibraryCall : Type 0 where
   vcd_rewrite : (src cursor out : List ℕ) (line : ℕ) → LibraryCall
 
 -- what words are: nothing is accepted where they are no state, record, head or cursor
-abbrev pub on_writer : (Writer → List Meaning) → WriterRead → List Meaning
-on_writer f (WriterRead.Is w) = f w
-on_writer f WriterRead.Bad = []
+abbrev pub on_writer : (Writer → List Meaning) → Option Writer → List Meaning
+on_writer f (Some w) = f w
+on_writer f None = []
 
-abbrev pub on_record : (Command → List Meaning) → Recorded → List Meaning
-on_record f (Recorded.Is k) = f k
-on_record f Recorded.None = []
+abbrev pub on_record : (Command → List Meaning) → Option Command → List Meaning
+on_record f (Some k) = f k
+on_record f None = []
 
-abbrev pub on_head : (Header → ℕ → List Meaning) → HeadRead → List Meaning
-on_head f (HeadRead.Is h n) = f h n
-on_head f HeadRead.Bad = []
+abbrev pub on_head : (Header → ℕ → List Meaning) → Option (Header × ℕ) → List Meaning
+on_head f (Some (h, n)) = f h n
+on_head f None = []
 
-abbrev pub on_cursor : (Cursor → List Meaning) → CursorRead → List Meaning
-on_cursor f (CursorRead.Is c) = f c
-on_cursor f CursorRead.Bad = []
+abbrev pub on_cursor : (Cursor → List Meaning) → Option Cursor → List Meaning
+on_cursor f (Some c) = f c
+on_cursor f None = []
 
 -- the bytes counted, from the start of the output, and the words that are left
 abbrev pub left_gives : List Meaning → WriteLeft → Effect (List ℕ)
 left_gives ms x = record { bytes = take x.count x.output; accepted = ms; state = x.writer }
 
 -- a record's command is accepted where the answer is 0
-abbrev pub record_taken : List ℕ → Recorded → ℕ → List Meaning
+abbrev pub record_taken : List ℕ → Option Command → ℕ → List Meaning
 record_taken src r status = cond (eqb status 0) (on_record (λ k. meaning src k ∷ []) r) []
 
 unfoldable pub library_effect : List ℕ → LibraryCall → Effect (List ℕ)

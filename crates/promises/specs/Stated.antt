@@ -1,17 +1,17 @@
 -- What is promised: the statements of this crate in one place. Their proofs are in proofs/, under the same names in lower case.
-use Rattle.std.specs.Prelude.{ℕ, suc, ◌+◌, ◌-◌, ◌*◌, ◌/◌, ◌^◌, ◌≤◌, ◌<◌, ◌≡◌, true, false, List, [], ◌∷◌, ◌++◌, length, take, replicate}
+use Rattle.command.specs.Refusals.{Ended}
+use Rattle.command.specs.declared.Time.{Time}
+use Rattle.std.specs.Prelude.{ℕ, suc, ◌+◌, ◌-◌, ◌*◌, ◌/◌, ◌^◌, ◌≤◌, ◌<◌, ◌≡◌, true, false, List, [], ◌∷◌, ◌++◌, length, take, replicate, Option, None, Result, Ok, Err}
 use Rattle.text.specs.Bytes.{bytes, all_blank}
 use Rattle.text.specs.declared.Text.{Text}
 use Rattle.value.specs.declared.Value.{Value}
 use Rattle.idcode.specs.Id.{parse_id, id_text, id_sum}
 use Rattle.idcode.specs.declared.IdCode.{IdCode}
-use Rattle.idcode.specs.declared.Parsed.{Parsed}
 use Rattle.scope.specs.declared.ReferenceIndex.{ReferenceIndex}
 use Rattle.scope.specs.declared.VarType.{VarType}
 use Rattle.command.specs.Meaning.{Meaning, remark, timescale, scope_def, upscope, var_def, enddefinitions, timestamp, change, scalar, begin, end, meaning, remark_word, open_after}
 use Rattle.command.specs.Words.{spoken, end_mark}
 use Rattle.command.specs.declared.Command.{Command}
-use Rattle.command.specs.declared.Open.{Open}
 use Rattle.command.specs.declared.Refusal.{Refusal}
 use Rattle.token.specs.Read.{Valid, after, rest}
 use Rattle.token.specs.declared.Cursor.{Cursor}
@@ -19,25 +19,20 @@ use Rattle.parser_part.specs.Plan.{with_open}
 use Rattle.parser.specs.Next.{next_from, fresh as start}
 use Rattle.parser.specs.Refusals.{is_of_reading}
 use Rattle.parser.specs.All.{Commands, command, stop, finish, commands, said, says, read_all, exactly}
-use Rattle.parser_part.specs.declared.Next.{Next}
+use Rattle.parser.specs.declared.Next.{Next}
 use Rattle.rows.specs.Rows.{rows_of}
 use Rattle.header.specs.declared.Header.{Header}
 use Rattle.text.specs.Texts.{limit, outside}
 use Rattle.write.specs.Call.{Outcome, refusal, call, Does, new_var, Adds}
 use Rattle.write.specs.Layout.{layout, writable, fresh}
 use Rattle.write.specs.Run.{layouts, Sized, Accepted}
-use Rattle.write.specs.declared.Added.{Added}
 use Rattle.write.specs.declared.Writer.{Writer}
-use Rattle.write.specs.declared.Written.{Written}
 use Rattle.write_header.specs.Meanings.{header_meanings}
 use Rattle.write_header.specs.Written.{Outcome as HeaderOutcome, header_call, Does as HeaderDoes}
-use Rattle.write_header.specs.declared.HeaderWritten.{HeaderWritten}
 use Rattle.vcd_state.specs.State.{writer_words}
 use Rattle.list_step.specs.Step.{change as change_told}
 use Rattle.listing.specs.Listing.{Outcome as Listing, list_in}
-use Rattle.listing.specs.declared.Ended.{Ended}
 use Rattle.change.specs.declared.ChangeKind.{ChangeKind}
-use Rattle.change.specs.declared.Since.{Since}
 use Rattle.list_job.specs.Whole.{list_text, list_whole}
 use Rattle.list_job.specs.Turns.{lent, row_words, change_words, Runs as Turns, Turned, Does as ListDoes}
 use Rattle.list_job.specs.declared.State.{State}
@@ -116,7 +111,7 @@ LibraryAccepted = (w : Writer) (cs : List LibraryCall) → w.id.0 < 2 ^ 64 → J
 abbrev pub HeaderWhole : Type 0
 HeaderWhole =
     (w v : Writer) (src : List ℕ) (h : Header) (table : List ℕ) (n m : ℕ) (out : List ℕ) (z : SizedTable table) (y : SizedScale h.timescale)
-    → (header_call w src h table n out).answer ≡ HeaderWritten.Bytes m v
+    → (header_call w src h table n out).answer ≡ Ok (m, v)
     → (effect_of w (header src h table n out z y)).accepted ≡ header_meanings src h (rows_of table n)
 
 -- Any calls of a new writer, in any mixture, refused ones among them: the file reads back as exactly the accepted commands, then the end.
@@ -144,7 +139,7 @@ Rewritten =
 abbrev pub RewrittenCall : Type 0
 RewrittenCall =
     (s : List ℕ) (c d : Cursor) (k : Command) (w v : Writer) (out : List ℕ) (n : ℕ) (t g r : List ℕ) (e : Cursor) → next_from s c ≡ Next.Command k d
-    → (call w s k out).answer ≡ Written.Bytes n v → Valid t e → e.sim ≡ w.sim → all_blank g ≡ true → rest t e ≡ g ++ (take n (call w s k out).left ++ r)
+    → (call w s k out).answer ≡ Ok (n, v) → Valid t e → e.sim ≡ w.sim → all_blank g ≡ true → rest t e ≡ g ++ (take n (call w s k out).left ++ r)
     → (says t (next_from t e) ≡ said (meaning s k) (cursor_after g (meaning s k) e)) × ((cursor_after g (meaning s k) e).sim ≡ v.sim)
 
 -- the same of a whole input: where every command that was read was accepted, the file that was written is read as the input was
@@ -156,12 +151,12 @@ RewrittenFile =
 -- Ids: the codes 0 to 2^64 - 2 and the accepted texts are paired one to one, over the sum.
 pub record IdsPaired : Type 0 where
   -- a code's text is read as the code, and has 1 to 10 bytes
-  pub read : (code : ℕ) → code < 2 ^ 64 - 1 → parse_id (id_text code) ≡ Parsed.Code (record { 0 = code })
+  pub read : (code : ℕ) → code < 2 ^ 64 - 1 → parse_id (id_text code) ≡ Ok (record { 0 = code })
   pub short : (code : ℕ) → code < 2 ^ 64 - 1 → (1 ≤ length (id_text code)) × (length (id_text code) ≤ 10)
   -- a text that is read as a code is that code's text, and its sum is one more
-  pub only : (s : List ℕ) (i : IdCode) → parse_id s ≡ Parsed.Code i → s ≡ id_text i.0
-  pub sum : (s : List ℕ) (i : IdCode) → parse_id s ≡ Parsed.Code i → id_sum s ≡ i.0 + 1
-  pub below : (s : List ℕ) (i : IdCode) → parse_id s ≡ Parsed.Code i → i.0 < 2 ^ 64 - 1
+  pub only : (s : List ℕ) (i : IdCode) → parse_id s ≡ Ok i → s ≡ id_text i.0
+  pub sum : (s : List ℕ) (i : IdCode) → parse_id s ≡ Ok i → id_sum s ≡ i.0 + 1
+  pub below : (s : List ℕ) (i : IdCode) → parse_id s ≡ Ok i → i.0 < 2 ^ 64 - 1
 
 -- Listing: from any cursor reading stops, after some commands, at the end or by a refusal.
 abbrev pub ReadingStops : Type 0
@@ -188,7 +183,7 @@ abbrev pub ListingFull : Type 0
 ListingFull =
     (s : List ℕ) (c : Cursor) (i : IdCode) (xs : List Step) (d : Cursor) → Steps s c xs d → (table : List ℕ) → length table / 6 < count s i xs
     → (ys : List Step) × (x : Step) × Beyond s i (length table / 6) xs ys x
-    × Holds s c i table ys (Ended.Refused Refusal.ListFull x.from.line) x.from
+    × Holds s c i table ys (Err (Refusal.ListFull, x.from.line)) x.from
 
 -- A statement pins what its call does: two answers of which it holds are equal. Of calls that answer alone;
 abbrev pub Pinned : Type 1
@@ -200,13 +195,13 @@ PinnedTwo = (A B : Type 0) (r q x : A) (o p y : B) → (r ≡ x) × (o ≡ y) �
 
 -- of calls that write a command, a variable with the next id, a header.
 abbrev pub DoesPinned : Type 0
-DoesPinned = (r q : Written) (o p : List ℕ) (x : Outcome) → Does r o x → Does q p x → (r ≡ q) × (o ≡ p)
+DoesPinned = (r q : Result (ℕ × Writer) Refusal) (o p : List ℕ) (x : Outcome) → Does r o x → Does q p x → (r ≡ q) × (o ≡ p)
 
 abbrev pub AddsPinned : Type 0
-AddsPinned = (i : IdCode) (r q : Added) (o p : List ℕ) (x : Outcome) → Adds i r o x → Adds i q p x → (r ≡ q) × (o ≡ p)
+AddsPinned = (i : IdCode) (r q : Result (ℕ × Writer × IdCode) Refusal) (o p : List ℕ) (x : Outcome) → Adds i r o x → Adds i q p x → (r ≡ q) × (o ≡ p)
 
 abbrev pub HeaderPinned : Type 0
-HeaderPinned = (r q : HeaderWritten) (o p : List ℕ) (x : HeaderOutcome) → HeaderDoes r o x → HeaderDoes q p x → (r ≡ q) × (o ≡ p)
+HeaderPinned = (r q : Result (ℕ × Writer) (Refusal × ℕ × Writer)) (o p : List ℕ) (x : HeaderOutcome) → HeaderDoes r o x → HeaderDoes q p x → (r ≡ q) × (o ≡ p)
 
 -- of a turn of each program, which answers and leaves its tables and its output.
 abbrev pub ListTurnPinned : Type 0
@@ -221,7 +216,7 @@ TurnPinned =
 
 -- Points on the writer's side of its borders. Inside a scope of a new writer:
 abbrev pub inside : IdCode → Writer
-inside i = record { depth = 1; id = i; sim = Open.None }
+inside i = record { depth = 1; id = i; sim = None }
 
 abbrev pub far : IdCode
 far = record { 0 = 14_478_900_916_529_561_927 }
@@ -229,12 +224,12 @@ far = record { 0 = 14_478_900_916_529_561_927 }
 pub record WriterPoints : Type 0 where
   -- a variable with id 2^64 - 2 is accepted, and the next id is 2^64 - 1;
   pub last : (call (inside (record { 0 = 0 })) (bytes "a") (Command.VarDef VarType.Wire 1 (record { 0 = 2 ^ 64 - 2 }) (record { start = 0; len = 1 }) ReferenceIndex.None) (replicate 40 0)).answer
-      ≡ Written.Bytes 30 (inside (record { 0 = 2 ^ 64 - 1 }))
+      ≡ Ok (30, inside (record { 0 = 2 ^ 64 - 1 }))
   -- automatic numbering then gives 22, whatever the variable is, and changes no byte
   pub spent : (w : Writer) (k : VarType) (n : ℕ) (t : Text) (x : ReferenceIndex) (src out : List ℕ) → w.id.0 ≡ 2 ^ 64 - 1 → outside src t ≡ false
       → call w src (new_var w k n t x) out ≡ refusal Refusal.NotWritable out
   -- the id `n999999999` is rewritten the same, and so is a line with it
-  pub same : (parse_id (bytes "n999999999") ≡ Parsed.Code far) × (id_text far.0 ≡ bytes "n999999999")
+  pub same : (parse_id (bytes "n999999999") ≡ Ok far) × (id_text far.0 ≡ bytes "n999999999")
   pub line : (read_all (bytes "1n999999999\n") start ≡ exactly (change far (scalar Value.V1) ∷ [])) × (layout (change far (scalar Value.V1)) ≡ bytes "1n999999999\n")
 
 -- ---- refusals of reading
@@ -247,16 +242,16 @@ RefusalLine = (s : List ℕ) (c : Cursor) (e : Refusal) (n : ℕ) (d : Cursor) �
 -- it: the time that was given, until one is read. It ends as reading does, and answers the last time then.
 abbrev pub ListingOnComplete : Type 0
 ListingOnComplete =
-    (s : List ℕ) (c : Cursor) (t : Since) (i : IdCode) (xs : List Step) (d : Cursor) (e : Ended) (f : Cursor) → Steps s c xs d → Stops s d e f
+    (s : List ℕ) (c : Cursor) (t : Option Time) (i : IdCode) (xs : List Step) (d : Cursor) (e : Ended) (f : Cursor) → Steps s c xs d → Stops s d e f
     → (table : List ℕ) → count s i xs ≤ length table / 6 → HoldsOn s c t i table xs e f
 
 -- With too little it holds those before the first change that finds no row, and ends by 24 with the cursor and the time as they stood
 -- before it.
 abbrev pub ListingOnFull : Type 0
 ListingOnFull =
-    (s : List ℕ) (c : Cursor) (t : Since) (i : IdCode) (xs : List Step) (d : Cursor) → Steps s c xs d → (table : List ℕ) → length table / 6 < count s i xs
+    (s : List ℕ) (c : Cursor) (t : Option Time) (i : IdCode) (xs : List Step) (d : Cursor) → Steps s c xs d → (table : List ℕ) → length table / 6 < count s i xs
     → (ys : List Step) × (x : Step) × Beyond s i (length table / 6) xs ys x
-    × HoldsOn s c t i table ys (Ended.Refused Refusal.ListFull x.from.line) x.from
+    × HoldsOn s c t i table ys (Err (Refusal.ListFull, x.from.line)) x.from
 
 -- Reading refuses by 1 to 7, 9 to 15, 17, 18 or 25 alone, so that 24 says that rows were wanting.
 abbrev pub ReadingRefusals : Type 0
@@ -266,12 +261,12 @@ ReadingRefusals = (s : List ℕ) (c : Cursor) (e : Refusal) (n : ℕ) (d : Curso
 pub record ListingPages : Type 0 where
   -- n rows that end by 24, and then m rows from the cursor and the time that came out, are the listing of n + m rows: the same rows, end,
   -- cursor and time
-  pub two : (s : List ℕ) (c : Cursor) (t : Since) (i : IdCode) (n m line : ℕ) → (list_in s c t i n).ended ≡ Ended.Refused Refusal.ListFull line
+  pub two : (s : List ℕ) (c : Cursor) (t : Option Time) (i : IdCode) (n m line : ℕ) → (list_in s c t i n).ended ≡ Err (Refusal.ListFull, line)
       → let a : Listing = list_in s c t i n in joined a (list_in s a.cursor a.since i m) ≡ list_in s c t i (n + m)
   -- so are any number of pages
-  pub many : (s : List ℕ) (c : Cursor) (t : Since) (i : IdCode) (n k : ℕ) → paged s i n k c t ≡ list_in s c t i (n * suc k)
+  pub many : (s : List ℕ) (c : Cursor) (t : Option Time) (i : IdCode) (n k : ℕ) → paged s i n k c t ≡ list_in s c t i (n * suc k)
   -- and with as many rows in all as there are changes, they are the listing with enough room
-  pub all : (s : List ℕ) (c : Cursor) (t : Since) (i : IdCode) (xs : List Step) (d : Cursor) (e : Ended) (f : Cursor) → Steps s c xs d → Stops s d e f
+  pub all : (s : List ℕ) (c : Cursor) (t : Option Time) (i : IdCode) (xs : List Step) (d : Cursor) (e : Ended) (f : Cursor) → Steps s c xs d → Stops s d e f
       → (n k m : ℕ) → count s i xs ≤ n * suc k → count s i xs ≤ m → paged s i n k c t ≡ list_in s c t i m
 
 -- ---- the programs

@@ -1,3 +1,2 @@
 mod Taken
 mod OneRead
-mod Clauses

@@ -8,7 +8,7 @@ use lib.Seq.{drop-length}
 use Rattle.text.proofs.Lists.{by-test}
 use Rattle.parser.specs.All.{followed, commands}
 use Rattle.parser.specs.Next.{is_good, next_from}
-use Rattle.parser_part.specs.declared.Next.{Next}
+use Rattle.parser.specs.declared.Next.{Next}
 use Rattle.parser.proofs.All.{commands-step}
 use Rattle.records.specs.Read.{Outcome, taken, read_of, filled}
 use Rattle.record.specs.Record.{record_words, words_of}

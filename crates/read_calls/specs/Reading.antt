@@ -1,23 +1,21 @@
 -- What each reading call answers, and what it leaves in each lent array. An answer is 0, the page's number of a refusal, or 255 where
 -- reading is at the end. 25 with nothing changed, where an array has the wrong length or its words are no state.
-use Rattle.std.specs.Prelude.{ℕ, ◌*◌, ◌-◌, ◌^◌, Bool, true, false, cond, List, eqb, length, take, drop}
-use Rattle.command.specs.Refusals.{number_of}
+use Rattle.std.specs.Prelude.{ℕ, ◌*◌, ◌-◌, ◌^◌, Bool, true, false, cond, List, eqb, length, take, drop, Option, Some, None, Ok, Err}
+use Rattle.command.specs.Refusals.{Ended, number_of}
 use Rattle.header.specs.Header.{Outcome as HeaderOutcome, header_of, answer_of as header_answer}
 use Rattle.rows.specs.Rows.{filled as header_filled, row_at}
-use Rattle.header.specs.declared.Ended.{Ended as HeaderEnded}
 use Rattle.header.specs.declared.HeaderAnswer.{HeaderAnswer}
 use Rattle.find.specs.declared.FoundRow.{FoundRow}
 use Rattle.rows.specs.declared.Row.{Row}
 use Rattle.change.specs.Rows.{change_at}
 use Rattle.change.specs.declared.Change.{Change}
 use Rattle.parser.specs.Next.{next_from}
-use Rattle.parser_part.specs.declared.Next.{Next}
+use Rattle.parser.specs.declared.Next.{Next}
 use Rattle.records.specs.Read.{Outcome as ReadOutcome, read_of, filled as read_filled}
 use Rattle.record.specs.Record.{record_words}
 use Rattle.records.specs.declared.Ended.{Ended as ReadEnded}
 use Rattle.token.specs.declared.Cursor.{Cursor}
 use Rattle.vcd_state.specs.State.{cursor_words, cursor_of, head_words}
-use Rattle.vcd_state.specs.declared.CursorRead.{CursorRead}
 
 -- no row
 abbrev pub none : ℕ
@@ -34,9 +32,9 @@ pub record Left : Type 0 where
 abbrev pub kept : List ℕ → List ℕ → ℕ → Left
 kept w t n = record { status = 25; cursor = w; table = t; count = n }
 
-abbrev pub on_cursor : (Cursor → Left) → Left → CursorRead → Left
-on_cursor f x (CursorRead.Is c) = f c
-on_cursor f x CursorRead.Bad = x
+abbrev pub on_cursor : (Cursor → Left) → Left → Option Cursor → Left
+on_cursor f x (Some c) = f c
+on_cursor f x None = x
 
 -- one command: the count is 1 where there is one
 abbrev pub one_read : List ℕ → Next → Left
@@ -75,9 +73,9 @@ pub record HeaderLeft : Type 0 where
 abbrev pub header_kept : List ℕ → List ℕ → List ℕ → HeaderLeft
 header_kept w t h = record { status = 25; cursor = w; rows = t; head = h }
 
-abbrev pub header_status : HeaderEnded → ℕ
-header_status HeaderEnded.Whole = 0
-header_status (HeaderEnded.Refused e line) = number_of e
+abbrev pub header_status : Ended → ℕ
+header_status (Ok tt) = 0
+header_status (Err (e, line)) = number_of e
 
 abbrev pub header_read : List ℕ → List ℕ → Cursor → HeaderLeft
 header_read s t c =
@@ -90,9 +88,9 @@ header_read s t c =
       head = head_words a.header a.count;
     }
 
-abbrev pub header_on : (Cursor → HeaderLeft) → HeaderLeft → CursorRead → HeaderLeft
-header_on f x (CursorRead.Is c) = f c
-header_on f x CursorRead.Bad = x
+abbrev pub header_on : (Cursor → HeaderLeft) → HeaderLeft → Option Cursor → HeaderLeft
+header_on f x (Some c) = f c
+header_on f x None = x
 
 unfoldable pub header_call_of : List ℕ → List ℕ → List ℕ → List ℕ → HeaderLeft
 header_call_of s w t h = cond (eqb (length h) 10) (header_on (header_read s t) (header_kept w t h) (cursor_of w)) (header_kept w t h)

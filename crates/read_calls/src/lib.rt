@@ -23,7 +23,6 @@ ghost use Rattle.read_calls.specs.Reading.{
 use change::Change;
 use find::FoundRow;
 use rows::Row;
-use vcd_state::CursorRead;
 
 const OK: u64 = 0;
 
@@ -36,6 +35,7 @@ const BAD_PLACE: u64 = 25;
 const NONE: u64 = 0xffff_ffff_ffff_ffff;
 
 // Reads the next command into a record of nine words.
+#[tactic(auto, unfolding(crate::specs::Reading::next_call))]
 pub fn next(input: &[u8], cursor: &mut [u64], words: &mut [u64]) -> u64
     ensures status { result ≡ (next_call input.now cursor.old words.old).status }
     ensures cursor { cursor.new ≡ (next_call input.now cursor.old words.old).cursor }
@@ -45,18 +45,17 @@ pub fn next(input: &[u8], cursor: &mut [u64], words: &mut [u64]) -> u64
         return BAD_PLACE;
     }
     match vcd_state::cursor_of(cursor) {
-        CursorRead::Is(c) => {
+        Some(c) => {
             let a = records::read(input, c, words);
-            let d = a.cursor;
-            let ended = a.ended;
-            vcd_state::put_cursor(cursor, d);
-            read_status(ended)
+            vcd_state::put_cursor(cursor, a.cursor);
+            read_status(a.ended)
         }
-        CursorRead::Bad => BAD_PLACE,
+        None => BAD_PLACE,
     }
 }
 
 // Reads commands into records until they are full or reading ends, and counts them.
+#[tactic(auto, unfolding(crate::specs::Reading::read_call))]
 pub fn read(input: &[u8], cursor: &mut [u64], records: &mut [u64], count: &mut u64) -> u64
     ensures status { result ≡ (read_call input.now cursor.old records.old count.old).status }
     ensures cursor { cursor.new ≡ (read_call input.now cursor.old records.old count.old).cursor }
@@ -64,15 +63,13 @@ pub fn read(input: &[u8], cursor: &mut [u64], records: &mut [u64], count: &mut u
     ensures count { count.new ≡ (read_call input.now cursor.old records.old count.old).count }
 {
     match vcd_state::cursor_of(cursor) {
-        CursorRead::Is(c) => {
+        Some(c) => {
             let a = records::read(input, c, records);
-            let d = a.cursor;
-            let ended = a.ended;
-            vcd_state::put_cursor(cursor, d);
+            vcd_state::put_cursor(cursor, a.cursor);
             *count = a.count as u64;
-            read_status(ended)
+            read_status(a.ended)
         }
-        CursorRead::Bad => BAD_PLACE,
+        None => BAD_PLACE,
     }
 }
 
@@ -87,6 +84,7 @@ fn read_status(e: records::Ended) -> u64
 }
 
 // Reads a header into rows of ten words, and what it keeps into ten words.
+#[tactic(auto, unfolding(crate::specs::Reading::header_call_of))]
 pub fn header(input: &[u8], cursor: &mut [u64], rows: &mut [u64], head: &mut [u64]) -> u64
     ensures status { result ≡ (header_call_of input.now cursor.old rows.old head.old).status }
     ensures cursor { cursor.new ≡ (header_call_of input.now cursor.old rows.old head.old).cursor }
@@ -97,16 +95,13 @@ pub fn header(input: &[u8], cursor: &mut [u64], rows: &mut [u64], head: &mut [u6
         return BAD_PLACE;
     }
     match vcd_state::cursor_of(cursor) {
-        CursorRead::Is(c) => {
+        Some(c) => {
             let a = header::read_header(input, c, rows);
-            let d = a.cursor;
-            let kept = a.header;
-            let ended = a.ended;
-            vcd_state::put_cursor(cursor, d);
-            vcd_state::put_head(head, kept, a.count);
-            header_status(ended)
+            vcd_state::put_cursor(cursor, a.cursor);
+            vcd_state::put_head(head, a.header, a.count);
+            header_status(a.ended)
         }
-        CursorRead::Bad => BAD_PLACE,
+        None => BAD_PLACE,
     }
 }
 
@@ -114,12 +109,13 @@ fn header_status(e: header::Ended) -> u64
     ensures { result ≡ header_status e }
 {
     match e {
-        header::Ended::Whole => OK,
-        header::Ended::Refused(r, _) => r.number(),
+        Ok(()) => OK,
+        Err((r, _)) => r.number(),
     }
 }
 
 // Copies row `i` of a header; BAD_PLACE where there is none, or where its words are no row.
+#[tactic(auto, unfolding(crate::specs::Reading::row_status, crate::specs::Reading::row_copied, crate::specs::Reading::is_row_call))]
 pub fn row(rows: &[u64], i: usize, row: &mut [u64]) -> u64
     ensures status { result ≡ row_status (is_row_call rows.now i row.old) }
     ensures row { row.new ≡ row_copied (is_row_call rows.now i row.old) 10 rows.now i row.old }
@@ -129,9 +125,7 @@ pub fn row(rows: &[u64], i: usize, row: &mut [u64]) -> u64
     }
     match rows::row_at(rows, i) {
         Row::None => BAD_PLACE,
-        Row::Scope(_, _, _) => copy_row(rows, i, row),
-        Row::Var(_, _) => copy_row(rows, i, row),
-        Row::Comment(_, _) => copy_row(rows, i, row),
+        Row::Scope(_, _, _) | Row::Var(_, _) | Row::Comment(_, _) => copy_row(rows, i, row),
     }
 }
 
@@ -141,12 +135,9 @@ fn copy_row(rows: &[u64], i: usize, row: &mut [u64]) -> u64
     ensures status { result ≡ 0 }
     ensures row { row.new ≡ take (length row.old) (drop (length row.old * i) rows.now) }
 {
-    let at = row.len() * i;
-    let mut j = 0;
-    while j < row.len() {
-        row[j] = rows[at + j];
-        j += 1;
-    }
+    let words = row.len();
+    let at = words * i;
+    row.copy_from_slice(&rows[at..at + words]);
     OK
 }
 
@@ -184,6 +175,7 @@ fn found(f: FoundRow, row: &mut u64) -> u64
 }
 
 // Copies row `i` of a listing; BAD_PLACE where there is none, or where its words are no row.
+#[tactic(auto, unfolding(crate::specs::Reading::row_status, crate::specs::Reading::row_copied, crate::specs::Reading::is_change_call))]
 pub fn change(rows: &[u64], i: usize, change: &mut [u64]) -> u64
     ensures status { result ≡ row_status (is_change_call rows.now i change.old) }
     ensures change { change.new ≡ row_copied (is_change_call rows.now i change.old) 6 rows.now i change.old }

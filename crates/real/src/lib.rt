@@ -1,135 +1,75 @@
 // The form of a real's text: an optional sign, then a name or digits with at most one point, then an optional exponent.
 #![tactic(auto)]
 
-ghost use Rattle.std.specs.Prelude.{◌≡◌, length, map};
-ghost use Rattle.text.specs.Bytes.{equal};
-ghost use Rattle.real.specs.Real.{is_real, is_named, is_decimal, is_exponent, digits_in, lower_case, unsigned as unsigned_of};
+ghost use Rattle.std.specs.Prelude.{◌≡◌, length};
+ghost use Rattle.real.specs.Real.{is_real, is_named, is_decimal, is_exponent, digits_in, unsigned as unsigned_of};
 
 // Whether a text has the form of a real, as Rust's from_str for f64 takes it.
+#[tactic(auto, unfolding(crate::specs::Real::is_real))]
 pub fn is_real(s: &[u8]) -> bool
     ensures { result ≡ is_real s.now }
 {
     let rest = unsigned(s);
-    if is_named(rest) {
-        return true;
-    }
-    is_decimal(rest)
+    is_named(rest) || is_decimal(rest)
 }
 
 // The text behind a sign, or all of it where it has none.
+#[tactic(auto, unfolding(crate::specs::Real::unsigned, text::specs::Bytes::has))]
 fn unsigned(s: &[u8]) -> &[u8]
     ensures { result.now ≡ unsigned_of s.now }
 {
-    if s.len() == 0 {
-        return s;
+    match s {
+        [b'+' | b'-', rest @ ..] => rest,
+        _ => s,
     }
-    let b = s[0];
-    if b == b'+' {
-        return &s[1..];
-    }
-    if b == b'-' {
-        return &s[1..];
-    }
-    s
 }
 
 // `inf`, `infinity` or `nan`, in any letter case.
+#[tactic(auto, unfolding(crate::specs::Real::is_named))]
 fn is_named(s: &[u8]) -> bool
     ensures { result ≡ is_named s.now }
 {
-    if equals_lower(s, b"inf") {
-        return true;
-    }
-    if equals_lower(s, b"infinity") {
-        return true;
-    }
-    equals_lower(s, b"nan")
-}
-
-fn lower_case(b: u8) -> u8
-    ensures { result ≡ lower_case b }
-{
-    if b < b'A' {
-        return b;
-    }
-    if b'Z' < b {
-        return b;
-    }
-    b + 32
-}
-
-// Whether a text is `word` once its capitals are made small.
-fn equals_lower(s: &[u8], word: &[u8]) -> bool
-    ensures { result ≡ equal (map lower_case s.now) word.now }
-{
-    if s.len() != word.len() {
-        return false;
-    }
-    let mut i = 0;
-    while i < s.len() {
-        if lower_case(s[i]) != word[i] {
-            return false;
-        }
-        i += 1;
-    }
-    true
+    s.eq_ignore_ascii_case(b"inf")
+        || s.eq_ignore_ascii_case(b"infinity")
+        || s.eq_ignore_ascii_case(b"nan")
 }
 
 // How many digits a text begins with.
 pub fn count_digits(s: &[u8]) -> usize
     ensures { result ≡ length (digits_in s.now) }
 {
-    let mut i = 0;
-    while i < s.len() {
-        let b = s[i];
-        if b < b'0' {
-            return i;
-        }
-        if b'9' < b {
-            return i;
-        }
-        i += 1;
-    }
-    i
+    s.iter()
+        .position(|b| !b.is_ascii_digit())
+        .unwrap_or(s.len())
 }
 
 // Digits with at most one point and at least one digit, then an exponent or nothing.
+#[tactic(auto, using(crate::proofs::Reals::digits_within, crate::proofs::Reals::some_counted), unfolding(crate::specs::Real::is_decimal, crate::specs::Real::is_rest))]
 fn is_decimal(s: &[u8]) -> bool
     ensures { result ≡ is_decimal s.now }
 {
     let whole = count_digits(s);
-    if s.len() <= whole {
-        return 0 < whole;
-    }
-    if s[whole] != b'.' {
-        if is_exponent(&s[whole..]) {
-            return 0 < whole;
+    match &s[whole..] {
+        [] => 0 < whole,
+        [b'.', rest @ ..] => {
+            let part = count_digits(rest);
+            0 < whole + part && is_exponent(&rest[part..])
         }
-        return false;
+        rest => 0 < whole && is_exponent(rest),
     }
-    let start = whole + 1;
-    let rest = &s[start..];
-    let part = count_digits(rest);
-    if is_exponent(&rest[part..]) {
-        return 0 < whole + part;
-    }
-    false
 }
 
 // Nothing, or `e` or `E`, an optional sign and at least one digit.
+#[tactic(auto, unfolding(crate::specs::Real::is_exponent, text::specs::Bytes::has))]
 fn is_exponent(s: &[u8]) -> bool
     ensures { result ≡ is_exponent s.now }
 {
-    if s.len() == 0 {
-        return true;
+    match s {
+        [] => true,
+        [b'e' | b'E', rest @ ..] => {
+            let digits = unsigned(rest);
+            !digits.is_empty() && count_digits(digits) == digits.len()
+        }
+        _ => false,
     }
-    let b = s[0];
-    if b != b'e' && b != b'E' {
-        return false;
-    }
-    let rest = unsigned(&s[1..]);
-    if count_digits(rest) == rest.len() {
-        return 0 < rest.len();
-    }
-    false
 }

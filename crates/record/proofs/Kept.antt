@@ -1,4 +1,5 @@
 -- Words that are a command are that command's words, so a command has one record.
+use Rattle.std.specs.Prelude.{Option, Some}
 use Prim.Native.Nat.{ℕ, ◌^◌, ◌≤◌, ◌<◌}
 use mathlib.Core.Path.{◌≡◌, refl, sym, ap, ◌∙◌}
 use mathlib.Core.Bool.{Bool, true, false, ◌&&◌}
@@ -18,7 +19,6 @@ use Rattle.rows.proofs.Words.{index-fits}
 use Rattle.record.specs.Record.{record_of, text_of, command_in, command_of}
 use Rattle.record.specs.Used.{number_most, amount_most, has_code, has_text, is_used}
 use Rattle.record.specs.declared.RecordWords.{RecordWords}
-use Rattle.record.specs.declared.Recorded.{Recorded}
 use Rattle.record.proofs.ByKind.{by_kind}
 use Rattle.record.proofs.Uses.{Used, used}
 
@@ -89,7 +89,7 @@ index_kept f a b e =
     rw (eqb-true f 2 (both (eqb f 2) (ltb a (2 ^ 32)) x.0).0) (refl, word_kept a fits.0, word_kept b fits.1)))
 
 -- ---- the command of nine words has those words
-module _ (w : RecordWords) (m : Command) (e : command_of w ≡ Recorded.Is m) where
+module _ (w : RecordWords) (m : Command) (e : command_of w ≡ Some m) where
   abbrev is_var : Bool
   is_var = leb w.number 17 && ltb w.amount (2 ^ 32) && is_index w.form w.first w.second
 
@@ -101,7 +101,7 @@ module _ (w : RecordWords) (m : Command) (e : command_of w ≡ Recorded.Is m) wh
   var-words k =
       by-test is_var
       (λ q.
-      let is : ◌≡◌ {A = Recorded} (Recorded.Is var) (Recorded.Is m) = rw (k, q) at e in
+      let is : ◌≡◌ {A = (Option Command)} (Some var) (Some m) = rw (k, q) at e in
       let m-is : var ≡ m = cc in
       let x = both (leb w.number 17 && ltb w.amount (2 ^ 32)) (is_index w.form w.first w.second) q in
       let h = leb-true w.number 17 (both (leb w.number 17) (ltb w.amount (2 ^ 32)) x.0).0 in
@@ -143,7 +143,7 @@ module _ (w : RecordWords) (m : Command) (e : command_of w ≡ Recorded.Is m) wh
   other-words n =
       by-test (all_zero (w.form ∷ w.first ∷ w.second ∷ []) && is_used w)
       (λ q.
-      let is : ◌≡◌ {A = Recorded} (Recorded.Is (command_in w)) (Recorded.Is m) = rw (n, q) at e in
+      let is : ◌≡◌ {A = (Option Command)} (Some (command_in w)) (Some m) = rw (n, q) at e in
       let m-is : command_in w ≡ m = cc in
       let x = both (all_zero (w.form ∷ w.first ∷ w.second ∷ [])) (is_used w) q in
       let y = both (eqb w.form 0) (eqb w.first 0 && (eqb w.second 0 && true)) x.0 in

@@ -1,5 +1,5 @@
 -- Commands as records of nine words: the words of a command, and the command that words are.
-use Rattle.std.specs.Prelude.{ℕ, ◌+◌, ◌*◌, ◌/◌, ◌^◌, cond, ◌&&◌, List, [], ◌∷◌, ◌++◌, eqb, leb, ltb, length, get_or, take, drop}
+use Rattle.std.specs.Prelude.{ℕ, ◌+◌, ◌*◌, ◌/◌, ◌^◌, cond, ◌&&◌, List, [], ◌∷◌, ◌++◌, eqb, leb, ltb, length, get_or, take, drop, Option, Some, None}
 use Rattle.command.specs.Numbers.{sim_number, sim_of}
 use Rattle.command.specs.declared.Command.{Command}
 use Rattle.rows.specs.Rows.{all_zero, index_form, index_first, index_second, is_index, index_of, text_at}
@@ -12,7 +12,6 @@ use Rattle.timescale.specs.Numbers.{unit_number, unit_of}
 use Rattle.value.specs.Numbers.{value_number, value_for}
 use Rattle.record.specs.Used.{is_used}
 use Rattle.record.specs.declared.RecordWords.{RecordWords}
-use Rattle.record.specs.declared.Recorded.{Recorded}
 
 -- the words of a record without a text or an index, and of one with a text
 abbrev pub plain_words : (kind number amount code : ℕ) → RecordWords
@@ -99,20 +98,20 @@ var_row w =
       second = w.second;
     }
 
-abbrev pub var_command : Row → Recorded
-var_command (Row.Var p v) = Recorded.Is (Command.VarDef v.var_type v.size v.code v.reference v.index)
-var_command (Row.Scope p k t) = Recorded.None
-var_command (Row.Comment p t) = Recorded.None
-var_command Row.None = Recorded.None
+abbrev pub var_command : Row → Option Command
+var_command (Row.Var p v) = Some (Command.VarDef v.var_type v.size v.code v.reference v.index)
+var_command (Row.Scope p k t) = None
+var_command (Row.Comment p t) = None
+var_command Row.None = None
 
 -- the command of nine words; none, if they are not the words of one
-unfoldable pub command_of : RecordWords → Recorded
+unfoldable pub command_of : RecordWords → Option Command
 command_of w =
     cond (eqb w.kind 7)
     (cond (leb w.number 17 && ltb w.amount (2 ^ 32) && is_index w.form w.first w.second)
-    (Recorded.Is (Command.VarDef (var_type_of w.number) w.amount (record { 0 = w.code }) (text_of w) (index_of w.form w.first w.second)))
-    Recorded.None)
-    (cond (all_zero (w.form ∷ w.first ∷ w.second ∷ []) && is_used w) (Recorded.Is (command_in w)) Recorded.None)
+    (Some (Command.VarDef (var_type_of w.number) w.amount (record { 0 = w.code }) (text_of w) (index_of w.form w.first w.second)))
+    None)
+    (cond (all_zero (w.form ∷ w.first ∷ w.second ∷ []) && is_used w) (Some (command_in w)) None)
 
 -- the words from `at` on
 abbrev pub words_at : List ℕ → ℕ → RecordWords
@@ -130,8 +129,8 @@ words_at table at =
     }
 
 -- record i of a table
-unfoldable pub record_at : List ℕ → ℕ → Recorded
-record_at table i = cond (ltb i (length table / 9)) (command_of (words_at table (9 * i))) Recorded.None
+unfoldable pub record_at : List ℕ → ℕ → Option Command
+record_at table i = cond (ltb i (length table / 9)) (command_of (words_at table (9 * i))) None
 
 -- the words of some commands
 unfoldable pub words_of : List Command → List ℕ

@@ -15,13 +15,6 @@ use text::Text;
 use timescale::TimescaleUnit;
 use value::Value;
 
-// A record by value; none where there is none, or where the words are no command.
-#[derive(Clone, Copy)]
-pub enum Recorded {
-    Is(Command),
-    None,
-}
-
 // A record's words in a table's order; those that its kind does not use are 0.
 #[derive(Clone, Copy)]
 pub struct RecordWords {
@@ -205,11 +198,11 @@ pub fn put_at(records: &mut [u64], at: usize, w: RecordWords)
 }
 
 // Record `i` of a table.
-pub fn record_at(records: &[u64], i: usize) -> Recorded
+pub fn record_at(records: &[u64], i: usize) -> Option<Command>
     ensures { result ≡ record_at records.now i }
 {
     if records.len() / WORDS <= i {
-        return Recorded::None;
+        return None;
     }
     words_at(records, WORDS * i).command()
 }
@@ -234,19 +227,19 @@ fn words_at(records: &[u64], at: usize) -> RecordWords
 
 impl RecordWords {
     // The command of the words.
-    pub fn command(self) -> Recorded
+    pub fn command(self) -> Option<Command>
         ensures { result ≡ command_of self }
     {
         if self.kind == VAR {
             return var_of(self.var_row().row());
         }
         if self.form != 0 || self.first != 0 || self.second != 0 {
-            return Recorded::None;
+            return None;
         }
         if !used::is_used(self) {
-            return Recorded::None;
+            return None;
         }
-        Recorded::Is(self.made())
+        Some(self.made())
     }
 
     // The words of a variable as those of a header's row.
@@ -301,7 +294,7 @@ impl RecordWords {
 }
 
 // The command of a header's row.
-fn var_of(row: Row) -> Recorded
+fn var_of(row: Row) -> Option<Command>
     ensures { result ≡ var_command row }
 {
     match row {
@@ -310,10 +303,10 @@ fn var_of(row: Row) -> Recorded
             let i = v.code;
             let r = v.reference;
             let x = v.index;
-            Recorded::Is(Command::VarDef(t, v.size, i, r, x))
+            Some(Command::VarDef(t, v.size, i, r, x))
         }
-        Row::Scope(_, _, _) => Recorded::None,
-        Row::Comment(_, _) => Recorded::None,
-        Row::None => Recorded::None,
+        Row::Scope(_, _, _) => None,
+        Row::Comment(_, _) => None,
+        Row::None => None,
     }
 }

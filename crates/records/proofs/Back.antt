@@ -1,4 +1,5 @@
 -- The words of a command are that command again, where its numbers are of their types, as those of a command that is read are.
+use Rattle.std.specs.Prelude.{Some}
 use Prim.Native.Nat.{◌-◌, ◌^◌}
 use mathlib.Core.Path.{◌≡◌, refl}
 use mathlib.Core.Bool.{Bool, true, ◌&&◌, ◌||◌}
@@ -16,12 +17,11 @@ use Rattle.rows.proofs.Fits.{index_back}
 use Rattle.parser.proofs.Ranged.{Ranged}
 use Rattle.record.specs.Record.{record_of, command_in, command_of}
 use Rattle.record.specs.Used.{number_most, amount_most, has_code, has_text, is_used}
-use Rattle.record.specs.declared.Recorded.{Recorded}
 
 or-true : (a : Bool) → (a || true) ≡ true
 or-true a = by-test a (λ e. rw e) (λ e. rw e)
 
-pub record-back : (k : Command) → Ranged k → command_of (record_of k) ≡ Recorded.Is k
+pub record-back : (k : Command) → Ranged k → command_of (record_of k) ≡ Some k
 unfolding command_of command_in all_zero is_used number_most amount_most has_code has_text
 record-back (Command.Comment t) r = rw (or-true (eqb t.start 0 && eqb t.len 0))
 record-back (Command.Date t) r = rw (or-true (eqb t.start 0 && eqb t.len 0))

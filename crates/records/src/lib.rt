@@ -10,7 +10,6 @@ ghost use Rattle.text.specs.Texts.{limit};
 
 use command::Refusal;
 use fast::Fast;
-use fast_var::FastVar;
 use parser::Next;
 use record::WORDS;
 use text::Text;
@@ -199,11 +198,11 @@ fn step_var(input: &[u8], c: Cursor, records: &mut [u64], n: usize) -> Step
     ensures { (as_slow input.now c result ≡ step_of (next_from input.now c)) × Inside input.now result × (records.new ≡ table_of (next_from input.now c) records.old n) }
 {
     match fast_var::parse_var(input, c.place) {
-        FastVar::Hit(v, end) => {
+        Some((v, end)) => {
             record::put(records, n, record::var_words(v));
             Step::Hit(end)
         }
-        FastVar::Miss => step_slow(input, c, records, n),
+        None => step_slow(input, c, records, n),
     }
 }
 

@@ -1,4 +1,5 @@
 -- What a turn's calls come to, each arm by itself. Assumes nothing.
+use Rattle.std.specs.Prelude.{Option, Result, Ok, Err}
 use Prim.Native.Nat.{ℕ, ◌≤◌, ◌<◌}
 use mathlib.Core.Path.{◌≡◌, refl, sym, ap, ◌∙◌}
 use mathlib.Core.Bool.{Bool, true, false}
@@ -10,17 +11,14 @@ use Rattle.command.specs.Meaning.{Meaning}
 use Rattle.command.specs.Refusals.{number_of}
 use Rattle.command.specs.declared.Refusal.{Refusal}
 use Rattle.header.specs.Header.{Outcome as Heading, header_of, answer_of as header_answer}
-use Rattle.header.specs.declared.Ended.{Ended as HeaderEnded}
 use Rattle.header.specs.declared.Header.{Header}
 use Rattle.header.specs.declared.HeaderAnswer.{HeaderAnswer}
 use Rattle.lines.specs.Lines.{taken as input_limit, long_line, refused_line}
 use Rattle.parser.specs.Next.{fresh as fresh_cursor}
 use Rattle.rewrite.specs.Rewrite.{rewrite_of, answer_of, filled as output_of}
-use Rattle.rewrite.specs.declared.Ended.{Ended}
 use Rattle.rewrite.specs.declared.Rewritten.{Rewritten}
 use Rattle.rows.specs.Rows.{filled}
 use Rattle.text.specs.Texts.{put_answer, put_bytes}
-use Rattle.text.specs.declared.Placed.{Placed}
 use Rattle.text.proofs.Lists.{by-test}
 use Rattle.token.specs.declared.Cursor.{Cursor}
 use Rattle.write.specs.Layout.{fresh}
@@ -28,7 +26,6 @@ use Rattle.write.specs.Run.{taken}
 use Rattle.write.specs.declared.Writer.{Writer}
 use Rattle.write_header.specs.Meanings.{header_meanings}
 use Rattle.write_header.specs.Written.{Outcome, poured, header_call, Does as HeaderDoes}
-use Rattle.write_header.specs.declared.HeaderWritten.{HeaderWritten}
 use Rattle.reformat_job.specs.Turns.{Does, Leaves, last_of, opened, begin_turn, goes_on, next_of, commands_turn, count_of, headed_turn}
 use Rattle.reformat_job.specs.declared.State.{State}
 use Rattle.reformat_job.specs.declared.Turn.{Turn}
@@ -41,7 +38,7 @@ none_first {n} e h = rw (eq-eqb n 0 h)
 pub some_first : {n x y : ℕ} (e : Refusal) → (n ≡ 0 → ⊥) → x ≡ number_of e → y ≡ number_of Refusal.NoRoom → eqb x y ≡ goes_on e n
 some_first {n} {x} {y} e h a b = rw (ne_eqb n 0 h, a, b)
 
-module _ (r : Rewritten) {e : Refusal} {l : ℕ} {b : Bool} (x : r.ended ≡ Ended.Refused e l) (g : b ≡ goes_on e r.count) where
+module _ (r : Rewritten) {e : Refusal} {l : ℕ} {b : Bool} (x : r.ended ≡ Err (e, l)) (g : b ≡ goes_on e r.count) where
   pub next-on : b ≡ true → State.Commands r.cursor r.writer ≡ next_of r.cursor r.writer r.count r.ended
   next-on t = let z : goes_on e r.count ≡ true = sym g ∙ t in rw (x, z)
 
@@ -55,7 +52,7 @@ unfolding commands_turn rewrite_of
 commands-done s c w out₀ q o n table = rw (n, q) (record { count = refl; next = refl; table = refl; output = o })
 
 -- ---- a last line
-pub last_line : {r : Turn} {p : Placed} {out : List ℕ} (line out₀ table : List ℕ) → r ≡ record { count = count_of p; next = State.Finished false }
+pub last_line : {r : Turn} {p : Option ℕ} {out : List ℕ} (line out₀ table : List ℕ) → r ≡ record { count = count_of p; next = State.Finished false }
     → p ≡ put_answer line out₀ → out ≡ put_bytes line out₀ → Does r table out out₀ (last_of (length out₀) table line)
 unfolding put_answer put_bytes
 last_line {r} {p} line out₀ table e q o =
@@ -65,7 +62,7 @@ last_line {r} {p} line out₀ table e q o =
     (λ t. rw t (record { count = count ∙ ap count_of q ∙ rw t; next = next; table = refl; output = o ∙ rw t }))
     (λ t. rw t (record { count = count ∙ ap count_of q ∙ rw t; next = next; table = refl; output = o ∙ rw t }))
 
-pub last-refused : {r : Turn} {p : Placed} {out : List ℕ} {n : ℕ} (e : Refusal) (l : ℕ) (out₀ table : List ℕ) → n ≡ number_of e
+pub last-refused : {r : Turn} {p : Option ℕ} {out : List ℕ} {n : ℕ} (e : Refusal) (l : ℕ) (out₀ table : List ℕ) → n ≡ number_of e
     → r ≡ record { count = count_of p; next = State.Finished false } → p ≡ put_answer (refused_line n l) out₀ → out ≡ put_bytes (refused_line n l) out₀
     → Does r table out out₀ (last_of (length out₀) table (refused_line (number_of e) l))
 last-refused e l out₀ table a z q o =
@@ -73,7 +70,7 @@ last-refused e l out₀ table a z q o =
     (o ∙ ap (λ (k : ℕ). put_bytes (refused_line k l) out₀) a)
 
 -- ---- the header
-module _ (s : List ℕ) (h : Header) (rows : List ℕ) (n : ℕ) (out₀ : List ℕ) {a : HeaderWritten} {out : List ℕ} {w : Writer} (f : w ≡ fresh)
+module _ (s : List ℕ) (h : Header) (rows : List ℕ) (n : ℕ) (out₀ : List ℕ) {a : Result (ℕ × Writer) (Refusal × ℕ × Writer)} {out : List ℕ} {w : Writer} (f : w ≡ fresh)
     (d : HeaderDoes a out (header_call w s h rows n out₀)) where
   pub header-turn : a ≡ (header_call fresh s h rows n out₀).answer
   header-turn = d.answers ∙ ap (λ (x : Writer). (header_call x s h rows n out₀).answer) f
@@ -81,14 +78,14 @@ module _ (s : List ℕ) (h : Header) (rows : List ℕ) (n : ℕ) (out₀ : List 
   pub header-left : out ≡ (header_call fresh s h rows n out₀).left
   header-left = d.leaves ∙ ap (λ (x : Writer). (header_call x s h rows n out₀).left) f
 
-pub begin-long : {r : Turn} {p : Placed} {out : List ℕ} (s out₀ table : List ℕ) → input_limit < length s → r ≡ record { count = count_of p; next = State.Finished false }
+pub begin-long : {r : Turn} {p : Option ℕ} {out : List ℕ} (s out₀ table : List ℕ) → input_limit < length s → r ≡ record { count = count_of p; next = State.Finished false }
     → p ≡ put_answer long_line out₀ → out ≡ put_bytes long_line out₀ → Does r table out out₀ (begin_turn s (length out₀) table)
 unfolding begin_turn
 begin-long s out₀ table h e q o = rw (lt-ltb input_limit (length s) h) (last_line long_line out₀ table e q o)
 
 poured-turn : {r : Turn} {out : List ℕ} (s out₀ table : List ℕ) (h : Heading)
     → let all = header_meanings s h.kept h.rows in let x = poured fresh all (taken fresh (length out₀) all) out₀ in
-    r ≡ headed_turn h.cursor x.answer → out ≡ x.left → Does r (filled h.rows table) out out₀ (opened s (length out₀) table h HeaderEnded.Whole)
+    r ≡ headed_turn h.cursor x.answer → out ≡ x.left → Does r (filled h.rows table) out out₀ (opened s (length out₀) table h (Ok tt))
 poured-turn s out₀ table h e o =
     let all : List Meaning = header_meanings s h.kept h.rows in
     let l : List Meaning = taken fresh (length out₀) all in
@@ -117,7 +114,7 @@ module _ (s table out₀ : List ℕ) (low : length s ≤ input_limit) {a : Heade
   called : header_call fresh s a.header rows a.count out₀ ≡ due
   called = rw (answered, stored) (header-written fresh s fresh_cursor table out₀ low)
 
-  pub begin-whole : {r : Turn} {out : List ℕ} → a.ended ≡ HeaderEnded.Whole → r ≡ headed_turn a.cursor (header_call fresh s a.header rows a.count out₀).answer
+  pub begin-whole : {r : Turn} {out : List ℕ} → a.ended ≡ (Ok tt) → r ≡ headed_turn a.cursor (header_call fresh s a.header rows a.count out₀).answer
       → out ≡ (header_call fresh s a.header rows a.count out₀).left → Does r rows out out₀ (begin_turn s (length out₀) table)
   unfolding begin_turn
   begin-whole g e o =
@@ -126,7 +123,7 @@ module _ (s table out₀ : List ℕ) (low : length s ≤ input_limit) {a : Heade
       (e ∙ ap (λ (x : Outcome). headed_turn a.cursor x.answer) called ∙ ap (λ (x : HeaderAnswer). headed_turn x.cursor due.answer) answered)
       (o ∙ ap (λ (x : Outcome). x.left) called))
 
-  pub begin-refused : {e : Refusal} {l : ℕ} → a.ended ≡ HeaderEnded.Refused e l
+  pub begin-refused : {e : Refusal} {l : ℕ} → a.ended ≡ Err (e, l)
       → Does (record { count = 0; next = State.Last e l }) rows out₀ out₀ (begin_turn s (length out₀) table)
   unfolding begin_turn
   begin-refused g = rw (le-ltb input_limit (length s) low, sym ended ∙ g, stored) (record { count = refl; next = refl; table = refl; output = refl })

@@ -1,5 +1,8 @@
 -- The header of a dump: its rows and texts are the reader's own, so that writing them is refused by neither 25 nor 23; and where its
 -- reading stops. Assumes nothing.
+use Rattle.command.specs.Refusals.{Ended}
+use Rattle.std.specs.Prelude.{Option, Some, None, Ok, Err}
+use Rattle.text.specs.declared.Text.{Text}
 use Prim.Native.Nat.{ℕ, ◌+◌, ◌≤◌}
 use mathlib.Core.Path.{◌≡◌, refl}
 use mathlib.Core.Bool.{false}
@@ -8,9 +11,7 @@ use native.Mathlib.Omega.{arith}
 use borrow.Author.Tests.{le-leb}
 use lib.ListN.{length}
 use Rattle.header.specs.Header.{Outcome, Step, on, whole, off, move, follow, read_rows, header_of}
-use Rattle.header.specs.declared.Ended.{Ended}
 use Rattle.header.specs.declared.Header.{Header}
-use Rattle.header.specs.declared.KeptText.{KeptText}
 use Rattle.header.proofs.Good.{header-good}
 use Rattle.header.proofs.Kept.{TextIn, KeptIn, header-texts, header-kept, header-back}
 use Rattle.lines.specs.Lines.{taken as input_limit}
@@ -30,9 +31,9 @@ use Rattle.reformat_job.proofs.Reading.{Sound}
 use Rattle.reformat_job.proofs.Joining.{line-in}
 
 -- ---- no text lies outside the input
-kept-inside : (s : List ℕ) (k : KeptText) → KeptIn s k → kept_outside s k ≡ false
-kept-inside s KeptText.None h = refl
-kept-inside s (KeptText.Is t) h = rw h
+kept-inside : (s : List ℕ) (k : Option Text) → KeptIn s k → kept_outside s k ≡ false
+kept-inside s None h = refl
+kept-inside s (Some t) h = rw h
 
 row_inside : (s : List ℕ) (r : Row) → TextIn s r → row_outside s r ≡ false
 row_inside s (Row.Scope p k t) h = rw h
@@ -63,8 +64,8 @@ module _ (w : Writer) (s : List ℕ) (c : Cursor) (table out : List ℕ) (short 
 
 -- ---- where the reading stops
 abbrev pub HeaderLineIn : List ℕ → Ended → Type 0
-HeaderLineIn s Ended.Whole = Unit {0}
-HeaderLineIn s (Ended.Refused e n) = n ≤ length s + 1
+HeaderLineIn s (Ok tt) = Unit {0}
+HeaderLineIn s (Err (e, n)) = n ≤ length s + 1
 
 abbrev pub Stops : List ℕ → Outcome → Type 0
 Stops s o = Valid s o.cursor × HeaderLineIn s o.ended

@@ -1,5 +1,7 @@
 -- The turns over the commands join: what one prints, with what is still to come from where it stops, is what was to come; and a turn
 -- that prints stops further on. Assumes nothing.
+use Rattle.command.specs.Refusals.{Ended}
+use Rattle.std.specs.Prelude.{Ok, Err}
 use Prim.Native.Nat.{ℕ, ◌+◌, ◌-◌, ◌≤◌, ◌<◌}
 use mathlib.Core.Path.{◌≡◌, refl, sym, ap, ◌∙◌}
 use mathlib.Core.Bool.{Bool, true, false}
@@ -12,7 +14,6 @@ use Rattle.command.specs.Meaning.{Meaning, remark, timescale, scope_def, upscope
 use Rattle.command.specs.declared.Refusal.{Refusal}
 use Rattle.parser.specs.All.{Commands, command, stop, finish, commands}
 use Rattle.rewrite.specs.Rewrite.{Outcome, after as after_bytes, rewritten}
-use Rattle.rewrite.specs.declared.Ended.{Ended}
 use Rattle.text.proofs.Lists.{by-test}
 use Rattle.token.specs.Read.{Valid}
 use Rattle.token.specs.declared.Cursor.{Cursor}
@@ -23,13 +24,13 @@ use Rattle.reformat_job.proofs.Reading.{is_no_room, Honest, Sound, later, ahead}
 
 -- stopped for want of room
 abbrev pub is_full : Ended → Bool
-is_full Ended.Whole = false
-is_full (Ended.Refused e n) = is_no_room e
+is_full (Ok tt) = false
+is_full (Err (e, n)) = is_no_room e
 
 -- what is left to print after that
 abbrev pub last_report : Ended → Report
-last_report Ended.Whole = ends true
-last_report (Ended.Refused e n) = refused_at e n
+last_report (Ok tt) = ends true
+last_report (Err (e, n)) = refused_at e n
 
 pub after-after : (a b : List ℕ) (r : Report) → after (a ++ b) r ≡ after a (after b r)
 after-after a b r = ap (λ (x : List ℕ). record { text = x; whole = r.whole }) (append_assoc a b r.text)
@@ -63,7 +64,7 @@ joins s room (command k d more) r w c h g e =
     rw (f, i) (before-it s room w (state_after w m) (command k d more) more b (rewritten s (r - length b) (state_after w m) d more) t
     (joins s room more (r - length b) (state_after w m) d (omega arith) g (later s c d k more e))))
     (λ i. rw (f, i) (full refl (ap (commands_report s room w) e))))
-    (λ f. let t : commands_report s room w (command k d more) ≡ last_report (Ended.Refused Refusal.NotWritable d.line) = rw f in
+    (λ f. let t : commands_report s room w (command k d more) ≡ last_report (Err (Refusal.NotWritable, d.line)) = rw f in
     rw f (over refl (sym t)))
   where
     m : Meaning
@@ -135,8 +136,8 @@ further s (command k d more) r w c g e h =
 
 -- ---- the cursor of a turn may stand in the input, and the line that it ends with is one of the input's
 abbrev pub LineIn : List ℕ → Ended → Type 0
-LineIn s Ended.Whole = Unit {0}
-LineIn s (Ended.Refused e n) = n ≤ length s + 1
+LineIn s (Ok tt) = Unit {0}
+LineIn s (Err (e, n)) = n ≤ length s + 1
 
 pub line-in : (s : List ℕ) (d : Cursor) → Valid s d → d.line ≤ length s + 1
 line-in s d v = omega (arith, v.counted, v.within)

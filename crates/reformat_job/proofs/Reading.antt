@@ -17,7 +17,7 @@ use Rattle.parser.proofs.All.{commands-step}
 use Rattle.parser.proofs.Ahead.{command-past}
 use Rattle.parser.proofs.Ranged.{refusal-reading}
 use Rattle.parser.proofs.Stated.{next-valid, refusal-line}
-use Rattle.parser_part.specs.declared.Next.{Next}
+use Rattle.parser.specs.declared.Next.{Next}
 use Rattle.text.proofs.Lists.{by-test}
 use Rattle.token.specs.Read.{Valid}
 use Rattle.token.specs.declared.Cursor.{Cursor}

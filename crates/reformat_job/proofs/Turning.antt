@@ -1,4 +1,6 @@
 -- All turns: each comes nearer to the end, and what they print is the text. Assumes nothing.
+use Rattle.command.specs.Refusals.{Ended}
+use Rattle.std.specs.Prelude.{Ok, Err}
 use Prim.Native.Nat.{ℕ, zero, suc, ◌+◌, ◌-◌, ◌≤◌, ◌<◌}
 use mathlib.Core.Path.{◌≡◌, refl, sym, ap, subst, ◌∙◌}
 use mathlib.Core.Bool.{Bool, true, false, cond}
@@ -11,14 +13,12 @@ use Rattle.command.specs.Meaning.{Meaning}
 use Rattle.command.specs.Refusals.{number_of}
 use Rattle.command.specs.declared.Refusal.{Refusal}
 use Rattle.header.specs.Header.{Outcome as Heading, header_of, nothing}
-use Rattle.header.specs.declared.Ended.{Ended as HeaderEnded}
 use Rattle.lines.specs.Lines.{taken as input_limit, header_rows, refused_line}
 use Rattle.number.specs.Decimal.{decimal_of}
 use Rattle.number.proofs.Writing.{short}
 use Rattle.parser.specs.All.{commands}
 use Rattle.parser.specs.Next.{fresh as fresh_cursor}
 use Rattle.rewrite.specs.Rewrite.{Outcome, rewritten}
-use Rattle.rewrite.specs.declared.Ended.{Ended}
 use Rattle.text.proofs.Lists.{by-test}
 use Rattle.token.specs.Read.{Valid}
 use Rattle.token.specs.declared.Cursor.{Cursor}
@@ -45,9 +45,9 @@ left s (State.Finished whole) = 0
 near-written : (s : List ℕ) (room : ℕ) (all l : List Meaning) (c : Cursor) → left s (written_next room all l c) < 3 + length s
 near-written s room all l c = by-test (eqb (length l) (length all)) (λ e. rw e (omega arith)) (λ e. rw e (omega arith))
 
-near-opened : (s : List ℕ) (room : ℕ) (table : List ℕ) (h : Heading) (x : HeaderEnded) → left s (opened s room table h x).next < 3 + length s
-near-opened s room table h HeaderEnded.Whole = let all : List Meaning = header_meanings s h.kept h.rows in near-written s room all (taken fresh room all) h.cursor
-near-opened s room table h (HeaderEnded.Refused e n) = omega arith
+near-opened : (s : List ℕ) (room : ℕ) (table : List ℕ) (h : Heading) (x : Ended) → left s (opened s room table h x).next < 3 + length s
+near-opened s room table h (Ok tt) = let all : List Meaning = header_meanings s h.kept h.rows in near-written s room all (taken fresh room all) h.cursor
+near-opened s room table h (Err (e, n)) = omega arith
 
 near-begin : (s : List ℕ) (room : ℕ) (table : List ℕ) → left s (begin_turn s room table).next < 3 + length s
 unfolding begin_turn
@@ -61,8 +61,8 @@ some_bytes (suc n) e = omega arith
 
 near_next : (s : List ℕ) (c d : Cursor) (w : Writer) (n : ℕ) (x : Ended) → (is_full x ≡ true → 0 < n → length s - d.place < length s - c.place)
     → left s (next_of d w n x) < 2 + (length s - c.place)
-near_next s c d w n Ended.Whole f = omega arith
-near_next s c d w n (Ended.Refused e l) f =
+near_next s c d w n (Ok tt) f = omega arith
+near_next s c d w n (Err (e, l)) f =
     by-test (eqb n 0) (λ q. rw q (omega arith))
     (λ q.
     by-test (is_no_room e)
@@ -118,14 +118,14 @@ module _ (s table : List ℕ) (sized : length table ≡ row_words) where
     written-goes rows all l c v =
         by-test (eqb (length l) (length all)) (λ e. rw e ((low, v), refl)) (λ e. rw e ((low, line-in s c v), refl))
 
-    opened-goes : (h : Heading) → Valid s h.cursor → (x : HeaderEnded) → HeaderLineIn s x
+    opened-goes : (h : Heading) → Valid s h.cursor → (x : Ended) → HeaderLineIn s x
         → let t : Turned = opened s lent_bytes table h x in Stands s t.rows t.next × (after t.bytes (rest s t.next) ≡ headed_report s lent_bytes h x)
-    opened-goes h v HeaderEnded.Whole y =
+    opened-goes h v (Ok tt) y =
         let all : List Meaning = header_meanings s h.kept h.rows in
         let l : List Meaning = taken fresh lent_bytes all in
-        let g = written-goes (opened s lent_bytes table h HeaderEnded.Whole).rows all l h.cursor v in
+        let g = written-goes (opened s lent_bytes table h (Ok tt)).rows all l h.cursor v in
         (g.0, ap (after (layouts l)) g.1)
-    opened-goes h v (HeaderEnded.Refused e n) y = ((low, y), refl)
+    opened-goes h v (Err (e, n)) y = ((low, y), refl)
 
     fresh-valid : Valid s fresh_cursor
     fresh-valid = record { short = omega arith; within = omega arith; started = omega arith; counted = omega arith }
@@ -149,21 +149,21 @@ module _ (s table : List ℕ) (low : length s ≤ input_limit) (c : Cursor) (w :
   o = rewritten s lent_bytes w c (commands s c)
 
   next-stands : (d : Cursor) (u : Writer) (n : ℕ) (x : Ended) → Valid s d → LineIn s x → Stands s table (next_of d u n x)
-  next-stands d u n Ended.Whole y z = tt
-  next-stands d u n (Ended.Refused e l) y z = by-test (goes_on e n) (λ q. rw q (low, y)) (λ q. rw q (low, z))
+  next-stands d u n (Ok tt) y z = tt
+  next-stands d u n (Err (e, l)) y z = by-test (goes_on e n) (λ q. rw q (low, y)) (λ q. rw q (low, z))
 
   -- where it does not go on, the end or a line is left
   next-over : (d : Cursor) (u : Writer) (n : ℕ) (x : Ended) → is_full x ≡ false → rest s (next_of d u n x) ≡ last_report x
-  next-over d u n Ended.Whole f = refl
-  next-over d u n (Ended.Refused e l) f = by-test (eqb n 0) (λ q. rw q refl) (λ q. rw (q, f) refl)
+  next-over d u n (Ok tt) f = refl
+  next-over d u n (Err (e, l)) f = by-test (eqb n 0) (λ q. rw q refl) (λ q. rw (q, f) refl)
 
   next-none : (d : Cursor) (u : Writer) (x : Ended) → rest s (next_of d u 0 x) ≡ last_report x
-  next-none d u Ended.Whole = refl
-  next-none d u (Ended.Refused e l) = refl
+  next-none d u (Ok tt) = refl
+  next-none d u (Err (e, l)) = refl
 
   next-full : (d : Cursor) (u : Writer) (n : ℕ) (x : Ended) → is_full x ≡ true → eqb n 0 ≡ false → rest s (next_of d u n x) ≡ commands_report s lent_bytes u (commands s d)
-  next-full d u n Ended.Whole f q = let z : ◌≡◌ {A = ℕ} 0 1 = cc in absurd (omega arith)
-  next-full d u n (Ended.Refused e l) f q = rw (q, f) refl
+  next-full d u n (Ok tt) f q = let z : ◌≡◌ {A = ℕ} 0 1 = cc in absurd (omega arith)
+  next-full d u n (Err (e, l)) f q = rw (q, f) refl
 
   nothing-first : (b : List ℕ) (r : Report) → length b ≡ 0 → after b r ≡ r
   nothing-first [] r e = refl

@@ -1,10 +1,10 @@
 -- All that vcd-reformat prints for an input, and whether that is the whole dump; `room` bytes are lent to a call of the writer.
-use Rattle.std.specs.Prelude.{ℕ, Bool, true, false, cond, List, [], ◌++◌, eqb, leb, ltb, length}
+use Rattle.command.specs.Refusals.{Ended}
+use Rattle.std.specs.Prelude.{ℕ, Bool, true, false, cond, List, [], ◌++◌, eqb, leb, ltb, length, Ok, Err}
 use Rattle.command.specs.Meaning.{Meaning, meaning}
 use Rattle.command.specs.Refusals.{number_of}
 use Rattle.command.specs.declared.Refusal.{Refusal}
 use Rattle.header.specs.Header.{Outcome as Heading, read_rows, nothing}
-use Rattle.header.specs.declared.Ended.{Ended as HeaderEnded}
 use Rattle.lines.specs.Lines.{taken as input_limit, header_rows, long_line, refused_line}
 use Rattle.parser.specs.All.{Commands, command, stop, finish, commands}
 use Rattle.parser.specs.Next.{fresh as fresh_cursor}
@@ -54,10 +54,10 @@ written_report s room all l c =
     (refused_at (stopped fresh room all) c.line))
 
 -- a header that was read, and what it amounts to; 25 and 23 do not come, since the rows and texts are the reader's own
-abbrev pub headed_report : List ℕ → ℕ → Heading → HeaderEnded → Report
-headed_report s room h HeaderEnded.Whole =
+abbrev pub headed_report : List ℕ → ℕ → Heading → Ended → Report
+headed_report s room h (Ok tt) =
     let all : List Meaning = header_meanings s h.kept h.rows in written_report s room all (taken fresh room all) h.cursor
-headed_report s room h (HeaderEnded.Refused e n) = refused_at e n
+headed_report s room h (Err (e, n)) = refused_at e n
 
 unfoldable pub heading : List ℕ → Heading
 heading s = read_rows header_rows (commands s fresh_cursor) [] 0 nothing

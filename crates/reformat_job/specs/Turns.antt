@@ -1,24 +1,21 @@
 -- A turn: the bytes that it prints, the state and the rows then; and what all turns from a state on print.
-use Rattle.std.specs.Prelude.{ℕ, ◌*◌, ◌≡◌, Bool, true, false, cond, List, [], ◌++◌, eqb, leb, ltb, length, drop}
+use Rattle.command.specs.Refusals.{Ended}
+use Rattle.std.specs.Prelude.{ℕ, ◌*◌, ◌≡◌, Bool, true, false, cond, List, [], ◌++◌, eqb, leb, ltb, length, drop, Option, Some, None, Result, Ok, Err}
 use Rattle.command.specs.Meaning.{Meaning}
 use Rattle.command.specs.Refusals.{number_of}
 use Rattle.command.specs.declared.Refusal.{Refusal}
 use Rattle.header.specs.Header.{Outcome as Heading, header_of}
-use Rattle.header.specs.declared.Ended.{Ended as HeaderEnded}
 use Rattle.lines.specs.Lines.{taken as input_limit, header_rows, long_line, refused_line}
 use Rattle.parser.specs.All.{commands}
 use Rattle.parser.specs.Next.{fresh as fresh_cursor}
 use Rattle.rewrite.specs.Rewrite.{Outcome, rewritten}
-use Rattle.rewrite.specs.declared.Ended.{Ended}
 use Rattle.rows.specs.Rows.{filled}
-use Rattle.text.specs.declared.Placed.{Placed}
 use Rattle.token.specs.declared.Cursor.{Cursor}
 use Rattle.write.specs.Layout.{fresh}
 use Rattle.write.specs.Run.{layouts, states_after, taken}
 use Rattle.write.specs.declared.Writer.{Writer}
 use Rattle.write_header.specs.Meanings.{header_meanings}
 use Rattle.write_header.specs.Written.{stopped}
-use Rattle.write_header.specs.declared.HeaderWritten.{HeaderWritten}
 use Rattle.reformat_job.specs.Reformat.{lent_bytes, reformat_text, reformat_whole}
 use Rattle.reformat_job.specs.declared.State.{State}
 use Rattle.reformat_job.specs.declared.Turn.{Turn}
@@ -45,12 +42,12 @@ abbrev pub written_next : ℕ → List Meaning → List Meaning → Cursor → S
 written_next room all l c =
     cond (eqb (length l) (length all)) (State.Commands c (states_after fresh l)) (State.Last (stopped fresh room all) c.line)
 
-abbrev pub opened : List ℕ → ℕ → List ℕ → Heading → HeaderEnded → Turned
-opened s room table h HeaderEnded.Whole =
+abbrev pub opened : List ℕ → ℕ → List ℕ → Heading → Ended → Turned
+opened s room table h (Ok tt) =
     let all : List Meaning = header_meanings s h.kept h.rows in
     let l : List Meaning = taken fresh room all in
     record { bytes = layouts l; next = written_next room all l h.cursor; rows = filled h.rows table }
-opened s room table h (HeaderEnded.Refused e n) = record { bytes = []; next = State.Last e n; rows = filled h.rows table }
+opened s room table h (Err (e, n)) = record { bytes = []; next = State.Last e n; rows = filled h.rows table }
 
 unfoldable pub begin_turn : List ℕ → ℕ → List ℕ → Turned
 begin_turn s room table =
@@ -62,8 +59,8 @@ abbrev pub goes_on : Refusal → ℕ → Bool
 goes_on e count = cond (eqb count 0) false (eqb (number_of e) (number_of Refusal.NoRoom))
 
 abbrev pub next_of : Cursor → Writer → ℕ → Ended → State
-next_of c w count Ended.Whole = State.Finished true
-next_of c w count (Ended.Refused e n) = cond (goes_on e count) (State.Commands c w) (State.Last e n)
+next_of c w count (Ok tt) = State.Finished true
+next_of c w count (Err (e, n)) = cond (goes_on e count) (State.Commands c w) (State.Last e n)
 
 unfoldable pub commands_turn : List ℕ → ℕ → List ℕ → Cursor → Writer → Turned
 commands_turn s room table c w =
@@ -90,14 +87,14 @@ is_whole (State.Last e n) = false
 is_whole (State.Finished whole) = whole
 
 -- ---- what the parts of the code promise
-abbrev pub count_of : Placed → ℕ
-count_of (Placed.Count n) = n
-count_of Placed.NoRoom = 0
+abbrev pub count_of : Option ℕ → ℕ
+count_of (Some n) = n
+count_of None = 0
 
 -- how a header was written
-abbrev pub headed_turn : Cursor → HeaderWritten → Turn
-headed_turn c (HeaderWritten.Bytes n w) = record { count = n; next = State.Commands c w }
-headed_turn c (HeaderWritten.Refused e n w) = record { count = n; next = State.Last e c.line }
+abbrev pub headed_turn : Cursor → Result (ℕ × Writer) (Refusal × ℕ × Writer) → Turn
+headed_turn c (Ok (n, w)) = record { count = n; next = State.Commands c w }
+headed_turn c (Err (e, n, w)) = record { count = n; next = State.Last e c.line }
 
 -- a turn that is not lent the rows leaves them
 abbrev pub Leaves : Turn → List ℕ → List ℕ → (List ℕ → Turned) → Type 0

@@ -12,7 +12,6 @@ ghost use Rattle.reformat_job.specs.Turns.{Does, Leaves, turn_of, begin_turn, co
 use command::Refusal;
 use header::Header;
 use rewrite::Rewritten;
-use text::Placed;
 use token::Cursor;
 use write::Writer;
 use write_header::HeaderWritten;
@@ -89,8 +88,8 @@ fn turn_begin(input: &[u8], rows: &mut [u64], out: &mut [u8]) -> Turn
     let kept = h.header;
     let c = h.cursor;
     match ended {
-        header::Ended::Whole => turn_header(input, kept, rows, h.count, c, out),
-        header::Ended::Refused(e, line) => Turn {
+        Ok(()) => turn_header(input, kept, rows, h.count, c, out),
+        Err((e, line)) => Turn {
             count: 0,
             next: State::Last(e, line),
         },
@@ -110,11 +109,11 @@ fn turn_header(
     ensures bytes { out.new ≡ (header_call fresh input.now kept rows.now count out.old).left }
 {
     match write_header::header(Writer::new(), input, kept, rows, count, out) {
-        HeaderWritten::Bytes(n, w) => Turn {
+        Ok((n, w)) => Turn {
             count: n,
             next: State::Commands(c, w),
         },
-        HeaderWritten::Refused(e, n, _) => Turn {
+        Err((e, n, _)) => Turn {
             count: n,
             next: State::Last(e, c.line),
         },
@@ -139,8 +138,8 @@ fn next_state(r: Rewritten) -> State
     let c = r.cursor;
     let w = r.writer;
     match ended {
-        rewrite::Ended::Whole => State::Finished(true),
-        rewrite::Ended::Refused(e, line) => {
+        Ok(()) => State::Finished(true),
+        Err((e, line)) => {
             if goes_on(e, r.count) {
                 return State::Commands(c, w);
             }
@@ -167,15 +166,15 @@ fn turn_last(e: Refusal, line: u64, out: &mut [u8]) -> Turn
 }
 
 // The end after a last line.
-fn last(p: Placed) -> Turn
+fn last(p: Option<usize>) -> Turn
     ensures { result ≡ record { count = count_of p; next = State.Finished false } }
 {
     match p {
-        Placed::Count(n) => Turn {
+        Some(n) => Turn {
             count: n,
             next: State::Finished(false),
         },
-        Placed::NoRoom => Turn {
+        None => Turn {
             count: 0,
             next: State::Finished(false),
         },

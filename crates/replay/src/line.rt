@@ -1,5 +1,5 @@
 // The canonical form: lines of a name, words and a text.
-use command::{Open, SimulationCommand};
+use command::SimulationCommand;
 use console::{front, put, put_byte};
 use scope::{ReferenceIndex, ScopeType, VarType};
 use text::{Spelled, Text};
@@ -109,15 +109,10 @@ fn line_of(name: u64, kind: Word, shown: Shown) -> Line {
 
 // Puts the line, all but its LF. The text is a place in `s`.
 pub fn put_line(out: &mut [u8], at: usize, s: &[u8], line: Line) -> usize {
-    let kind = line.kind;
-    let first = line.first;
-    let second = line.second;
-    let shown = line.shown;
-    let last = line.last;
     let o = put(out, at, crate::word(&NAMES, line.name));
-    let p = put_words(out, o, kind, first, second);
-    let q = put_shown(out, p, s, shown);
-    put_word(out, q, spell(last))
+    let p = put_words(out, o, line.kind, line.first, line.second);
+    let q = put_shown(out, p, s, line.shown);
+    put_word(out, q, spell(line.last))
 }
 
 fn put_words(out: &mut [u8], at: usize, a: Word, b: Word, c: Word) -> usize {
@@ -141,28 +136,24 @@ fn spell(w: Word) -> Spelled {
 }
 
 fn spell_byte(b: u8) -> Spelled {
-    let s = [b];
-    text::spell(&s)
+    text::spell(&[b])
 }
 
 // The index, or `-`.
 fn spell_index(x: ReferenceIndex) -> Spelled {
     match x {
         ReferenceIndex::None => text::spell(b"-"),
-        ReferenceIndex::BitSelect(_) => x.spell(),
-        ReferenceIndex::Range(_, _) => x.spell(),
+        ReferenceIndex::BitSelect(_) | ReferenceIndex::Range(_, _) => x.spell(),
     }
 }
 
 // A space and the word; nothing where it is empty.
 pub fn put_word(out: &mut [u8], at: usize, word: Spelled) -> usize {
-    let bytes = word.bytes;
-    let len = word.len;
-    if len == 0 {
+    if word.len == 0 {
         return at;
     }
     let o = put_byte(out, at, b' ');
-    put(out, o, front(&bytes, len))
+    put(out, o, front(&word.bytes, word.len))
 }
 
 // A space and the number.
@@ -171,14 +162,14 @@ pub fn put_number(out: &mut [u8], at: usize, n: u64) -> usize {
 }
 
 // A space and the open simulation command's name, or `-`.
-pub fn put_open(out: &mut [u8], at: usize, o: Open) -> usize {
+pub fn put_open(out: &mut [u8], at: usize, o: Option<SimulationCommand>) -> usize {
     put_word(out, at, spell_open(o))
 }
 
-fn spell_open(o: Open) -> Spelled {
+fn spell_open(o: Option<SimulationCommand>) -> Spelled {
     match o {
-        Open::None => text::spell(b"-"),
-        Open::Of(k) => k.spell(),
+        None => text::spell(b"-"),
+        Some(k) => k.spell(),
     }
 }
 
@@ -200,16 +191,14 @@ fn put_shown(out: &mut [u8], at: usize, s: &[u8], shown: Shown) -> usize {
 // A space, `"`, and the bytes: 33 to 126 but the backslash as themselves, others as `\xNN`.
 pub fn put_text(out: &mut [u8], at: usize, text: &[u8]) -> usize {
     let mut o = put(out, at, b" \"");
-    let mut i = 0;
-    while i < text.len() {
-        o = put_escaped(out, o, text[i]);
-        i += 1;
+    for &b in text {
+        o = put_escaped(out, o, b);
     }
     o
 }
 
 fn put_escaped(out: &mut [u8], at: usize, b: u8) -> usize {
-    if 32 < b && b < 127 && b != b'\\' {
+    if b.is_ascii_graphic() && b != b'\\' {
         return put_byte(out, at, b);
     }
     let o = put(out, at, b"\\x");
@@ -225,10 +214,8 @@ fn hex(n: u8) -> u8 {
 // A space and the values in lower case.
 pub fn put_values(out: &mut [u8], at: usize, text: &[u8]) -> usize {
     let mut o = put_byte(out, at, b' ');
-    let mut i = 0;
-    while i < text.len() {
-        o = put_byte(out, o, value::vector::lowered(text[i]));
-        i += 1;
+    for &b in text {
+        o = put_byte(out, o, value::vector::lowered(b));
     }
     o
 }

@@ -2,8 +2,7 @@
 // same, and leave every byte that is not theirs. A header's call is made once. Nothing is promised of these but that they are safe and end.
 #![tactic(auto)]
 
-use command::{Command, Open, Refusal};
-use vcd_state::HeadRead;
+use command::{Command, Refusal, SimulationCommand};
 use write::{Added, Writer, Written};
 use write_header::HeaderWritten;
 
@@ -19,49 +18,41 @@ pub struct Outcome {
     pub id: u64,
 }
 
-fn fill(s: &mut [u8]) {
-    let mut i = 0;
-    while i < s.len() {
-        s[i] = MARK;
-        i += 1;
-    }
-}
-
 // After a refusal the state is the one before.
 fn of_written(w: Writer, r: Written) -> Outcome {
     match r {
-        Written::Bytes(count, state) => Outcome {
+        Ok((count, state)) => Outcome {
             refusal: 0,
             count,
             state,
             id: 0,
         },
-        Written::Refused(e) => refused(w, e.number()),
+        Err(e) => refused(w, e.number()),
     }
 }
 
 fn of_added(w: Writer, r: Added) -> Outcome {
     match r {
-        Added::Bytes(count, state, id) => Outcome {
+        Ok((count, state, id)) => Outcome {
             refusal: 0,
             count,
             state,
             id: id.0,
         },
-        Added::Refused(e) => refused(w, e.number()),
+        Err(e) => refused(w, e.number()),
     }
 }
 
 // A header that is refused may have written commands before.
 fn of_header(r: HeaderWritten) -> Outcome {
     match r {
-        HeaderWritten::Bytes(count, state) => Outcome {
+        Ok((count, state)) => Outcome {
             refusal: 0,
             count,
             state,
             id: 0,
         },
-        HeaderWritten::Refused(e, count, state) => Outcome {
+        Err((e, count, state)) => Outcome {
             refusal: e.number(),
             count,
             state,
@@ -81,7 +72,7 @@ fn refused(state: Writer, refusal: u64) -> Outcome {
 
 // Fills the output and makes the call by its own method; `call` tells apart those that write the same command.
 pub fn by_method(w: Writer, src: &[u8], call: u64, k: Command, out: &mut [u8]) -> Outcome {
-    fill(out);
+    out.fill(MARK);
     match call {
         6 => of_written(w, add_module(w, src, k, out)),
         9 => of_added(w, add_var(w, src, k, out)),
@@ -92,37 +83,37 @@ pub fn by_method(w: Writer, src: &[u8], call: u64, k: Command, out: &mut [u8]) -
 
 // Fills the output and makes the call by `command`.
 pub fn by_command(w: Writer, src: &[u8], k: Command, out: &mut [u8]) -> Outcome {
-    fill(out);
+    out.fill(MARK);
     of_written(w, w.command(src, k, out))
 }
 
 // Fills the output and makes a header's call, over the words of a head and of a table.
 pub fn by_header(w: Writer, src: &[u8], head: &[u64], rows: &[u64], out: &mut [u8]) -> Outcome {
-    fill(out);
+    out.fill(MARK);
     match vcd_state::head_of(head) {
-        HeadRead::Is(h, n) => of_header(write_header::header(w, src, h, rows, n, out)),
-        HeadRead::Bad => refused(w, 25),
+        Some((h, n)) => of_header(write_header::header(w, src, h, rows, n, out)),
+        None => refused(w, 25),
     }
 }
 
 fn add_module(w: Writer, src: &[u8], k: Command, out: &mut [u8]) -> Written {
     match k {
         Command::ScopeDef(_, i) => w.add_module(src, i, out),
-        _ => Written::Refused(Refusal::NotWritable),
+        _ => Err(Refusal::NotWritable),
     }
 }
 
 fn add_var(w: Writer, src: &[u8], k: Command, out: &mut [u8]) -> Added {
     match k {
         Command::VarDef(t, n, _, r, x) => w.add_var(src, t, n, r, x, out),
-        _ => Added::Refused(Refusal::NotWritable),
+        _ => Err(Refusal::NotWritable),
     }
 }
 
 fn add_wire(w: Writer, src: &[u8], k: Command, out: &mut [u8]) -> Added {
     match k {
         Command::VarDef(_, n, _, r, _) => w.add_wire(src, n, r, out),
-        _ => Added::Refused(Refusal::NotWritable),
+        _ => Err(Refusal::NotWritable),
     }
 }
 
@@ -149,44 +140,26 @@ fn own(w: Writer, src: &[u8], k: Command, out: &mut [u8]) -> Written {
 
 // Whether both ways answered and wrote the same, and left the bytes after the count.
 pub fn sound(a: Outcome, b: Outcome, one: &[u8], two: &[u8]) -> bool {
-    if a.refusal != b.refusal || a.count != b.count {
-        return false;
-    }
-    let v = a.state;
-    let w = b.state;
-    if !same_state(v, w) || !text::equals(one, two) {
-        return false;
-    }
-    is_marked(one, a.count)
+    a.refusal == b.refusal
+        && a.count == b.count
+        && same_state(a.state, b.state)
+        && text::equals(one, two)
+        && is_marked(one, a.count)
 }
 
 fn same_state(v: Writer, w: Writer) -> bool {
-    let i = v.id;
-    let j = w.id;
-    if v.depth != w.depth || i.0 != j.0 {
-        return false;
-    }
-    let o = v.sim;
-    let p = w.sim;
-    open_number(o) == open_number(p)
+    v.depth == w.depth && v.id.0 == w.id.0 && open_number(v.sim) == open_number(w.sim)
 }
 
 // A number for what is open, by which two states are compared.
-fn open_number(o: Open) -> u64 {
+fn open_number(o: Option<SimulationCommand>) -> u64 {
     match o {
-        Open::None => 4,
-        Open::Of(k) => k.number(),
+        None => 4,
+        Some(k) => k.number(),
     }
 }
 
 // Whether every byte from `at` on is as it was.
 pub fn is_marked(s: &[u8], at: usize) -> bool {
-    let mut i = at;
-    while i < s.len() {
-        if s[i] != MARK {
-            return false;
-        }
-        i += 1;
-    }
-    true
+    s.iter().skip(at).all(|&b| b == MARK)
 }

@@ -2,13 +2,14 @@
 // the rows must stay.
 ghost use Rattle.std.specs.Prelude.{◌≤◌};
 
-use header::{Ended, Header, HeaderAnswer, KeptText, KeptTimescale};
+use header::{Ended, Header, HeaderAnswer};
 use replay::line::{Line, Shown, Word};
 use replay::{line, put, put_byte, put_word};
-use rows::{Parent, Row, WORDS};
+use rows::{Row, RowNumber, WORDS};
 use scope::Var;
 use std::io::Stdout;
 use text::{Spelled, Text};
+use timescale::TimescaleUnit;
 use token::Cursor;
 
 // What the table is filled with.
@@ -46,10 +47,7 @@ pub fn answer(
 fn words_of(rows: usize) -> usize
     ensures { result ≤ 50000 }
 {
-    if MOST_ROWS < rows {
-        return MOST_ROWS * WORDS;
-    }
-    rows * WORDS
+    replay::least(rows, MOST_ROWS) * WORDS
 }
 
 fn answer_dump(stdout: Stdout, dump: &[u8], table: &mut [u64], out: &mut [u8], at: usize) -> usize {
@@ -59,28 +57,13 @@ fn answer_dump(stdout: Stdout, dump: &[u8], table: &mut [u64], out: &mut [u8], a
 
 // Fills the table and reads the header into it.
 fn read_filled(dump: &[u8], table: &mut [u64]) -> HeaderAnswer {
-    fill(table);
+    table.fill(MARK);
     header::read_header(dump, parser::start(), table)
-}
-
-fn fill(table: &mut [u64]) {
-    let mut i = 0;
-    while i < table.len() {
-        table[i] = MARK;
-        i += 1;
-    }
 }
 
 // Whether every word from `at` on is as it was.
 fn is_marked(table: &[u64], at: usize) -> bool {
-    let mut i = at;
-    while i < table.len() {
-        if table[i] != MARK {
-            return false;
-        }
-        i += 1;
-    }
-    true
+    table.iter().skip(at).all(|&w| w == MARK)
 }
 
 fn put_answer(
@@ -91,12 +74,9 @@ fn put_answer(
     table: &[u64],
     a: HeaderAnswer,
 ) -> usize {
-    let h = a.header;
-    let e = a.ended;
-    let c = a.cursor;
     let o = put_rows(stdout, out, at, s, table, a.count);
-    let p = put_kept(out, o, s, h);
-    let q = put_ended(out, p, s, e, c);
+    let p = put_kept(out, o, s, a.header);
+    let q = put_ended(out, p, s, a.ended, a.cursor);
     if is_marked(table, words_of(a.count)) {
         return replay::flush(stdout, out, q);
     }
@@ -112,11 +92,9 @@ fn put_rows(
     count: usize,
 ) -> usize {
     let mut o = at;
-    let mut i: usize = 0;
-    while i < count {
+    for i in 0..count {
         o = put_row(out, o, s, rows::row_at(table, i));
         o = replay::flush(stdout, out, o);
-        i += 1;
     }
     o
 }
@@ -145,43 +123,34 @@ fn row_line(row: Row) -> Line {
 }
 
 fn var_line(v: Var) -> Line {
-    let kind = v.var_type;
-    let id = v.code;
-    let name = v.reference;
-    let index = v.index;
     Line {
         name: line::VAR,
-        kind: Word::Var(kind),
+        kind: Word::Var(v.var_type),
         first: Word::Number(v.size as u64),
-        second: Word::Number(id.0),
-        shown: Shown::Text(name),
-        last: Word::Index(index),
+        second: Word::Number(v.code.0),
+        shown: Shown::Text(v.reference),
+        last: Word::Index(v.index),
     }
 }
 
 fn parent_word(row: Row) -> Spelled {
     match row {
-        Row::Scope(p, _, _) => spell_parent(p),
-        Row::Var(p, _) => spell_parent(p),
-        Row::Comment(p, _) => spell_parent(p),
+        Row::Scope(p, _, _) | Row::Var(p, _) | Row::Comment(p, _) => spell_parent(p),
         Row::None => text::spell(b""),
     }
 }
 
-fn spell_parent(p: Parent) -> Spelled {
+fn spell_parent(p: Option<RowNumber>) -> Spelled {
     match p {
-        Parent::Top => text::spell(b"top"),
-        Parent::Of(n) => number::decimal(n.0),
+        None => text::spell(b"top"),
+        Some(n) => number::decimal(n.0),
     }
 }
 
 fn put_kept(out: &mut [u8], at: usize, s: &[u8], h: Header) -> usize {
-    let date = h.date;
-    let version = h.version;
-    let timescale = h.timescale;
-    let o = put_whole(out, at, s, text_line(line::DATE, date));
-    let p = put_whole(out, o, s, text_line(line::VERSION, version));
-    put_whole(out, p, s, timescale_line(timescale))
+    let o = put_whole(out, at, s, text_line(line::DATE, h.date));
+    let p = put_whole(out, o, s, text_line(line::VERSION, h.version));
+    put_whole(out, p, s, timescale_line(h.timescale))
 }
 
 // A line and its LF.
@@ -190,17 +159,17 @@ fn put_whole(out: &mut [u8], at: usize, s: &[u8], line: Line) -> usize {
     put_byte(out, o, b'\n')
 }
 
-fn text_line(name: u64, k: KeptText) -> Line {
+fn text_line(name: u64, k: Option<Text>) -> Line {
     match k {
-        KeptText::None => line::worded(name, Word::Dash),
-        KeptText::Is(t) => line::texted(name, t),
+        None => line::worded(name, Word::Dash),
+        Some(t) => line::texted(name, t),
     }
 }
 
-fn timescale_line(k: KeptTimescale) -> Line {
+fn timescale_line(k: Option<(u32, TimescaleUnit)>) -> Line {
     match k {
-        KeptTimescale::None => line::worded(line::TIMESCALE, Word::Dash),
-        KeptTimescale::Is(n, unit) => Line {
+        None => line::worded(line::TIMESCALE, Word::Dash),
+        Some((n, unit)) => Line {
             name: line::TIMESCALE,
             kind: Word::None,
             first: Word::Number(n as u64),
@@ -212,17 +181,16 @@ fn timescale_line(k: KeptTimescale) -> Line {
 }
 
 fn put_ended(out: &mut [u8], at: usize, s: &[u8], e: Ended, c: Cursor) -> usize {
-    let sim = c.sim;
     let o = line::put_line(out, at, s, ended_line(e, c));
-    let p = replay::put_open(out, o, sim);
+    let p = replay::put_open(out, o, c.sim);
     put_byte(out, p, b'\n')
 }
 
 // How the header ended, and the reader's line then.
 fn ended_line(e: Ended, c: Cursor) -> Line {
     match e {
-        Ended::Whole => placed_line(line::HEADER, Word::Number(c.line), Word::None, c),
-        Ended::Refused(r, at) => {
+        Ok(()) => placed_line(line::HEADER, Word::Number(c.line), Word::None, c),
+        Err((r, at)) => {
             placed_line(line::REFUSED, Word::Number(r.number()), Word::Number(at), c)
         }
     }
@@ -236,10 +204,6 @@ fn placed_line(name: u64, kind: Word, first: Word, c: Cursor) -> Line {
         first,
         second: Word::Number(c.place as u64),
         shown: Shown::None,
-        last: Word::Number(bit(c.pending)),
+        last: Word::Number(u64::from(c.pending)),
     }
-}
-
-fn bit(b: bool) -> u64 {
-    if b { 1 } else { 0 }
 }

@@ -6,7 +6,6 @@ mod answer;
 
 ghost use Rattle.std.specs.Prelude.{◌≡◌, length};
 
-use replay::Case;
 use std::io::{Stdin, Stdout};
 
 fn main(rt: HostRuntime) {
@@ -36,6 +35,9 @@ fn table() -> [u64; 50007]
     [0; 50007]
 }
 
+// Every case takes two bytes at least, so this many are enough.
+const MOST_CASES: u64 = 4294967295;
+
 // Answers how much of the output is still to be written: the rest was written whenever it was half full.
 fn answer_all(
     stdin: Stdin,
@@ -47,18 +49,14 @@ fn answer_all(
     let mut have: usize = 0;
     let mut at: usize = 0;
     let mut used: usize = 0;
-    let mut number: u64 = 0;
-    // Every case takes two bytes at least, so this many are enough.
-    while number < 4294967295 {
+    for number in 0..MOST_CASES {
         let fed = replay::next_case(stdin, input, at, have);
         have = fed.have;
-        let case = fed.case;
-        let Case::At(t) = case else {
+        let Some(t) = fed.case else {
             return used;
         };
         used = answer::answer(stdout, text::part(input, t), number, table, out, used);
         at = replay::after(input, t);
-        number += 1;
     }
     used
 }

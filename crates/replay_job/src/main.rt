@@ -6,7 +6,6 @@
 ghost use Rattle.std.specs.Prelude.{◌≡◌, length};
 ghost use Rattle.list_job.specs.Turns.{lent};
 
-use replay::Case;
 use std::io::{Stdin, Stdout};
 
 fn main(rt: HostRuntime) {
@@ -25,7 +24,6 @@ fn main(rt: HostRuntime) {
 enum Program {
     List,
     Reformat,
-    None,
 }
 
 // Zeros: room for the longest case.
@@ -48,6 +46,9 @@ fn rewritten() -> [u8; reformat_job::LENT]
     [0; reformat_job::LENT]
 }
 
+// Every case and every name takes two bytes at least, so this many are enough.
+const MOST_TURNS: u64 = 4294967295;
+
 // Each case's number, then what the program prints for it, which goes to standard output by itself. Answers whether all was written.
 fn answer_all(
     stdin: Stdin,
@@ -59,27 +60,23 @@ fn answer_all(
     let mut have: usize = 0;
     let mut at: usize = 0;
     let mut number: u64 = 0;
-    let mut program = Program::None;
-    let mut turns: u64 = 0;
-    // Every case and every name takes two bytes at least, so this many are enough.
-    while turns < 4294967295 {
-        turns += 1;
+    let mut program = None;
+    for turn in 0..MOST_TURNS {
         let fed = replay::next_case(stdin, input, at, have);
         have = fed.have;
-        let case = fed.case;
-        match case {
-            Case::At(t) => {
+        match fed.case {
+            Some(t) => {
                 if !answer(stdout, program, text::part(input, t), number, out, lent) {
                     return false;
                 }
                 at = replay::after(input, t);
                 number += 1;
             }
-            Case::End => {
+            None => {
                 // What is left stands at the front: a program's name, or nothing.
                 let line = replay::line_at(replay::front(input, have), 0);
                 program = named(text::part(input, line));
-                if is_none(program) {
+                if program.is_none() {
                     return true;
                 }
                 at = replay::after(input, line);
@@ -90,27 +87,17 @@ fn answer_all(
     true
 }
 
-fn named(line: &[u8]) -> Program {
-    if text::equals(line, b"list") {
-        return Program::List;
-    }
-    if text::equals(line, b"reformat") {
-        return Program::Reformat;
-    }
-    Program::None
-}
-
-fn is_none(program: Program) -> bool {
-    match program {
-        Program::List => false,
-        Program::Reformat => false,
-        Program::None => true,
+fn named(line: &[u8]) -> Option<Program> {
+    match line {
+        b"list" => Some(Program::List),
+        b"reformat" => Some(Program::Reformat),
+        _ => None,
     }
 }
 
 fn answer(
     stdout: Stdout,
-    program: Program,
+    program: Option<Program>,
     dump: &[u8],
     number: u64,
     out: &mut [u8],
@@ -120,15 +107,9 @@ fn answer(
         return false;
     }
     match program {
-        Program::List => {
-            let p = job::print_list(stdout, dump, out);
-            p.written
-        }
-        Program::Reformat => {
-            let p = job::print_reformat(stdout, dump, lent);
-            p.written
-        }
-        Program::None => true,
+        Some(Program::List) => job::print_list(stdout, dump, out).written,
+        Some(Program::Reformat) => job::print_reformat(stdout, dump, lent).written,
+        None => true,
     }
 }
 

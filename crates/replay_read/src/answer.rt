@@ -10,6 +10,9 @@ use token::Cursor;
 // Reading a case stops once this many answers count; a refusal counts as one, the end as all.
 const STOP: u64 = 4;
 
+// Every answer takes a byte, refuses or ends, so this many are enough.
+const MOST_ANSWERS: u64 = 4294967296;
+
 // One answer of the reader: the line that shows it, the reader's line and cursor then, and how much it counts.
 #[derive(Clone, Copy)]
 struct Shows {
@@ -23,10 +26,7 @@ pub fn answer(case: &[u8], number: u64, out: &mut [u8], at: usize) -> usize {
     let mut o = replay::put_case(out, at, number);
     let mut c = parser::start();
     let mut count: u64 = 0;
-    // Every answer takes a byte, refuses or ends, so this many are enough.
-    let mut turns: u64 = 0;
-    while turns < 4294967296 {
-        turns += 1;
+    for _ in 0..MOST_ANSWERS {
         let a = answer_of(parser::next_command(case, c));
         o = put_answer(out, o, case, a);
         c = a.cursor;
@@ -64,11 +64,9 @@ fn answer_of(next: Next) -> Shows
 }
 
 fn put_answer(out: &mut [u8], at: usize, s: &[u8], a: Shows) -> usize {
-    let line = a.line;
-    let c = a.cursor;
-    let o = line::put_line(out, at, s, line);
+    let o = line::put_line(out, at, s, a.line);
     let p = put_number(out, o, a.at);
-    let q = put_number(out, p, c.place as u64);
+    let q = put_number(out, p, a.cursor.place as u64);
     put_byte(out, q, b'\n')
 }
 
@@ -107,8 +105,7 @@ fn kind_of(k: Command) -> Word {
     match k {
         Command::ScopeDef(t, _) => Word::Scope(t),
         Command::VarDef(t, _, _, _, _) => Word::Var(t),
-        Command::Begin(t) => Word::Sim(t),
-        Command::End(t) => Word::Sim(t),
+        Command::Begin(t) | Command::End(t) => Word::Sim(t),
         _ => Word::None,
     }
 }
@@ -116,13 +113,12 @@ fn kind_of(k: Command) -> Word {
 // A size, a time or an id.
 fn first_of(k: Command) -> Word {
     match k {
-        Command::Timescale(n, _) => Word::Number(n as u64),
-        Command::VarDef(_, n, _, _, _) => Word::Number(n as u64),
+        Command::Timescale(n, _) | Command::VarDef(_, n, _, _, _) => Word::Number(n as u64),
         Command::Timestamp(t) => Word::Number(t.0),
-        Command::ChangeScalar(i, _) => Word::Number(i.0),
-        Command::ChangeVector(i, _) => Word::Number(i.0),
-        Command::ChangeReal(i, _) => Word::Number(i.0),
-        Command::ChangeString(i, _) => Word::Number(i.0),
+        Command::ChangeScalar(i, _)
+        | Command::ChangeVector(i, _)
+        | Command::ChangeReal(i, _)
+        | Command::ChangeString(i, _) => Word::Number(i.0),
         _ => Word::None,
     }
 }
@@ -138,14 +134,14 @@ fn second_of(k: Command) -> Word {
 
 fn shown_of(k: Command) -> Shown {
     match k {
-        Command::Comment(t) => Shown::Text(t),
-        Command::Date(t) => Shown::Text(t),
-        Command::Version(t) => Shown::Text(t),
-        Command::ScopeDef(_, t) => Shown::Text(t),
-        Command::VarDef(_, _, _, t, _) => Shown::Text(t),
+        Command::Comment(t)
+        | Command::Date(t)
+        | Command::Version(t)
+        | Command::ScopeDef(_, t)
+        | Command::VarDef(_, _, _, t, _)
+        | Command::ChangeReal(_, t)
+        | Command::ChangeString(_, t) => Shown::Text(t),
         Command::ChangeVector(_, t) => Shown::Values(t),
-        Command::ChangeReal(_, t) => Shown::Text(t),
-        Command::ChangeString(_, t) => Shown::Text(t),
         _ => Shown::None,
     }
 }

@@ -6,7 +6,6 @@ mod answer;
 
 ghost use Rattle.std.specs.Prelude.{◌≡◌, length};
 
-use replay::Case;
 use std::io::Stdout;
 
 fn main(rt: HostRuntime) {
@@ -28,20 +27,19 @@ fn buffer() -> [u8; 131072]
     [0; 131072]
 }
 
+// Every case takes two bytes at least, so this many are enough.
+const MOST_CASES: u64 = 4294967295;
+
 // Writes what is answered whenever the output is half full, and at the end; answers whether the last of it was written.
 fn answer_all(stdout: Stdout, input: &[u8], out: &mut [u8]) -> bool {
     let mut at: usize = 0;
     let mut used: usize = 0;
-    let mut number: u64 = 0;
-    // Every case takes two bytes at least, so this many are enough.
-    while number < 4294967295 {
-        let case = replay::case_at(input, at);
-        let Case::At(t) = case else {
+    for number in 0..MOST_CASES {
+        let Some(t) = replay::case_at(input, at) else {
             break;
         };
         used = answer::answer(text::part(input, t), number, out, used);
         at = replay::after(input, t);
-        number += 1;
         if 65536 < used {
             replay::write_front(stdout, out, used);
             used = 0;

@@ -8,6 +8,9 @@ use std::io::Stdout;
 use text::{Spelled, Text};
 use write::Writer;
 
+// Every line of a case takes a byte, so this many are enough.
+const MOST_LINES: u64 = 4294967296;
+
 // The state after a call, and the place after its answer.
 #[derive(Clone, Copy)]
 struct Step {
@@ -35,9 +38,7 @@ pub fn answer(
     let src = text::part(case, source);
     let mut w = state_in(first);
     let mut place = replay::after(case, source);
-    // Every line takes a byte, so this many are enough.
-    let mut turns: u64 = 0;
-    while turns < 4294967296 {
+    for _ in 0..MOST_LINES {
         if case.len() <= place {
             return o;
         }
@@ -46,7 +47,6 @@ pub fn answer(
         let step = answer_call(w, src, text::part(case, t), one, two, out, o);
         w = step.state;
         o = replay::flush(stdout, out, step.at);
-        turns += 1;
     }
     o
 }
@@ -88,19 +88,11 @@ fn answer_on(
     if call == HEADER {
         return answer_header(w, src, line, one, out, at);
     }
-    let next = w.id;
-    let k = script::command_of(line, next);
+    let k = script::command_of(line, w.id);
     let a = replay_call::by_method(w, src, call, k, one);
     let b = replay_call::by_command(w, src, k, two);
     let o = put_outcome(out, at, call, a, one);
-    let state = a.state;
-    if replay_call::sound(a, b, one, two) {
-        return Step { state, at: o };
-    }
-    Step {
-        state,
-        at: put(out, o, b"spoilt\n"),
-    }
+    step_of(a, replay_call::sound(a, b, one, two), out, o)
 }
 
 // The number of a header's call, and the words of a head.
@@ -135,13 +127,14 @@ fn answer_table(
     let head = replay::least(HEAD, all);
     let a = replay_call::by_header(w, src, &words[..head], &words[head..all], one);
     let o = put_outcome(out, at, HEADER, a, one);
-    let state = a.state;
-    if replay_call::is_marked(one, a.count) {
-        return Step { state, at: o };
-    }
+    step_of(a, replay_call::is_marked(one, a.count), out, o)
+}
+
+// The step after a call's answer: a call that was not sound is told.
+fn step_of(a: Outcome, sound: bool, out: &mut [u8], at: usize) -> Step {
     Step {
-        state,
-        at: put(out, o, b"spoilt\n"),
+        state: a.state,
+        at: if sound { at } else { put(out, at, b"spoilt\n") },
     }
 }
 
@@ -171,8 +164,7 @@ fn put_written(out: &mut [u8], at: usize, call: u64, a: Outcome, bytes: &[u8]) -
     let written = replay::front(bytes, a.count);
     let o = put_number(out, at, written.len() as u64);
     let p = replay::put_text(out, o, written);
-    let w = a.state;
-    let q = put_state(out, p, w);
+    let q = put_state(out, p, a.state);
     let r = replay::put_word(out, q, given(call, a.id));
     put_byte(out, r, b'\n')
 }
@@ -190,9 +182,7 @@ fn given(call: u64, id: u64) -> Spelled {
 }
 
 fn put_state(out: &mut [u8], at: usize, w: Writer) -> usize {
-    let id = w.id;
-    let sim = w.sim;
     let o = put_number(out, at, w.depth);
-    let p = put_number(out, o, id.0);
-    replay::put_open(out, p, sim)
+    let p = put_number(out, o, w.id.0);
+    replay::put_open(out, p, w.sim)
 }

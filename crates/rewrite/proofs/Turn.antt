@@ -1,4 +1,6 @@
 -- Commands rewritten from one cursor to the next: one command, more after it, and how it ends. Assumes nothing.
+use Rattle.command.specs.Refusals.{Ended}
+use Rattle.std.specs.Prelude.{Result, Ok, Err}
 use Prim.Native.Nat.{ℕ, ◌+◌, ◌-◌, ◌≤◌, ◌<◌}
 use mathlib.Core.Path.{◌≡◌, refl, sym, ap, ◌∙◌}
 use mathlib.Core.Bool.{true, false}
@@ -21,7 +23,7 @@ use Rattle.token.specs.declared.Cursor.{Cursor}
 use Rattle.token.proofs.Tokens.{Within}
 use Rattle.parser.specs.All.{followed, commands}
 use Rattle.parser.specs.Next.{is_good, next_from}
-use Rattle.parser_part.specs.declared.Next.{Next}
+use Rattle.parser.specs.declared.Next.{Next}
 use Rattle.parser.proofs.Ahead.{command-past}
 use Rattle.parser.proofs.All.{less-left, commands-step}
 use Rattle.parser.proofs.Moved.{Inside as Lies}
@@ -29,11 +31,9 @@ use Rattle.parser.proofs.Stated.{command-inside}
 use Rattle.write.specs.Call.{Does, written, misplaced, call}
 use Rattle.write.specs.Layout.{layout, writable, state_after}
 use Rattle.write.specs.declared.Writer.{Writer}
-use Rattle.write.specs.declared.Written.{Written}
 use Rattle.text.proofs.Limit.{not-long, outside-else}
 use Rattle.write.proofs.Outcomes.{not-writable, laid_out}
 use Rattle.rewrite.specs.Rewrite.{Outcome, ends, after, rewritten, rewrite_of, answer_of, filled, wrote_of, step_of, left_by, as_slow, Inside}
-use Rattle.rewrite.specs.declared.Ended.{Ended}
 use Rattle.rewrite.specs.declared.Step.{Step}
 
 -- ---- a command that was read is not misplaced
@@ -74,11 +74,11 @@ module _ (s : List ℕ) (room : ℕ) (w : Writer) (c : Cursor) where
     abbrev it : Meaning
     it = meaning s k
 
-    ahead-bad : writable w it ≡ false → ahead s room w c ≡ ends w c (Ended.Refused Refusal.NotWritable d.line)
+    ahead-bad : writable w it ≡ false → ahead s room w c ≡ ends w c (Err (Refusal.NotWritable, d.line))
     unfolding rewritten
     ahead-bad p = ahead-next _ e ∙ rw p
 
-    ahead-full : writable w it ≡ true → leb (length (layout it)) room ≡ false → ahead s room w c ≡ ends w c (Ended.Refused Refusal.NoRoom d.line)
+    ahead-full : writable w it ≡ true → leb (length (layout it)) room ≡ false → ahead s room w c ≡ ends w c (Err (Refusal.NoRoom, d.line))
     unfolding rewritten
     ahead-full p q = ahead-next _ e ∙ rw (p, q)
 
@@ -87,11 +87,11 @@ module _ (s : List ℕ) (room : ℕ) (w : Writer) (c : Cursor) where
     unfolding rewritten
     ahead-on p q = ahead-next _ e ∙ rw (p, q)
 
-  ahead-refused : (e : Refusal) (n : ℕ) (d : Cursor) → next_from s c ≡ Next.Refused e n d → ahead s room w c ≡ ends w d (Ended.Refused e n)
+  ahead-refused : (e : Refusal) (n : ℕ) (d : Cursor) → next_from s c ≡ Next.Refused e n d → ahead s room w c ≡ ends w d (Err (e, n))
   unfolding rewritten
   ahead-refused e n d q = ahead-next _ q
 
-  ahead-done : (d : Cursor) → next_from s c ≡ Next.Done d → ahead s room w c ≡ ends w d Ended.Whole
+  ahead-done : (d : Cursor) → next_from s c ≡ Next.Done d → ahead s room w c ≡ ends w d (Ok tt)
   unfolding rewritten
   ahead-done d q = ahead-next _ q
 
@@ -115,7 +115,7 @@ unfolding call
 may_write w s o k p q = laid_out _ _ _ _ _ p q refl (refl, refl) refl refl
 
 may-not : (w : Writer) (s o : List ℕ) (k : Command) → misplaced s k ≡ false → writable w (meaning s k) ≡ false
-    → Does (Written.Refused Refusal.NotWritable) o (call w s k o)
+    → Does (Err Refusal.NotWritable) o (call w s k o)
 unfolding call
 may-not w s o k p q = not-writable _ _ _ _ _ p q
 
@@ -164,7 +164,7 @@ Steps s o c w r left = (r ≡ step_of s c w o (next_from s c)) × (left ≡ left
 abbrev pub Answers : List ℕ → List ℕ → Cursor → Writer → Step → List ℕ → Type 0
 Answers s o c w r left = (as_slow s c w r ≡ step_of s c w o (next_from s c)) × Inside s r × (left ≡ left_by s w o (next_from s c))
 
-pub command-steps : (s o : List ℕ) (c : Cursor) (w : Writer) (k : Command) (d : Cursor) → next_from s c ≡ Next.Command k d → {r : Step} {left : List ℕ} (x : Written)
+pub command-steps : (s o : List ℕ) (c : Cursor) (w : Writer) (k : Command) (d : Cursor) → next_from s c ≡ Next.Command k d → {r : Step} {left : List ℕ} (x : Result (ℕ × Writer) Refusal)
     → r ≡ wrote_of c d x → Does x left (call w s k o) → Steps s o c w r left
 command-steps s o c w k d e x q y = rw e (q ∙ ap (wrote_of c d) y.answers, y.leaves)
 
@@ -232,11 +232,11 @@ module _ (s o : List ℕ) (c : Cursor) (w : Writer) (out : List ℕ) (n : ℕ) (
     stops q = rw (ended q, append-nil x.bytes) (rw x.count, unchanged q ∙ x.left)
 
 -- ---- a cursor that may not stand in the input
-nothing : (s o : List ℕ) (c : Cursor) (w : Writer) → is_good s c ≡ false → rewrite_of s c w o ≡ ends w c (Ended.Refused Refusal.BadPlace c.line)
+nothing : (s o : List ℕ) (c : Cursor) (w : Writer) → is_good s c ≡ false → rewrite_of s c w o ≡ ends w c (Err (Refusal.BadPlace, c.line))
 unfolding rewrite_of next_from
 nothing s o c w e = ahead-refused s (length o) w c _ _ _ (rw e)
 
 pub stops-before : (s o : List ℕ) (c : Cursor) (w : Writer) → is_good s c ≡ false
-    → (record { cursor = c; writer = w; count = 0; ended = Ended.Refused Refusal.BadPlace c.line } ≡ answer_of (rewrite_of s c w o))
+    → (record { cursor = c; writer = w; count = 0; ended = Err (Refusal.BadPlace, c.line) } ≡ answer_of (rewrite_of s c w o))
     × (o ≡ filled (rewrite_of s c w o).bytes o)
 stops-before s o c w e = rw (nothing s o c w e) (refl, refl)

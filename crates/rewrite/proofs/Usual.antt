@@ -1,4 +1,6 @@
 -- The usual commands, which hit the fast path: they may be written, change no state, and are laid out as `emit` puts them. Assumes nothing.
+use Rattle.std.specs.Prelude.{Option, Some, None, Result, Ok, Err}
+use Rattle.command.specs.declared.Refusal.{Refusal}
 use Prim.Native.Nat.{ℕ, ◌+◌, ◌-◌, ◌^◌, ◌≤◌, ◌<◌}
 use mathlib.Core.Path.{◌≡◌, refl, ap, ◌∙◌}
 use mathlib.Core.Bool.{true}
@@ -7,13 +9,12 @@ use native.Mathlib.Omega.{arith}
 use lib.ListN.{length, drop, get_or, length-drop}
 use lib.Seq.{length-take-le}
 use Rattle.text.specs.Texts.{limit, part, put_answer, put_bytes}
-use Rattle.text.specs.declared.Placed.{Placed}
 use Rattle.value.specs.Values.{lower}
 use Rattle.value.proofs.Values.{lower-byte}
 use Rattle.command.specs.Meaning.{meaning}
 use Rattle.command.specs.declared.Command.{Command}
 use Rattle.parser.specs.Next.{next_from}
-use Rattle.parser_part.specs.declared.Next.{Next}
+use Rattle.parser.specs.declared.Next.{Next}
 use Rattle.token.specs.Flat.{word_read}
 use Rattle.token.specs.Read.{Valid}
 use Rattle.token.specs.declared.Cursor.{Cursor}
@@ -23,7 +24,6 @@ use Rattle.write_check.proofs.Checks.{vector-some}
 use Rattle.write.specs.Call.{written, call}
 use Rattle.write.specs.Layout.{is_id, layout, writable, state_after}
 use Rattle.write.specs.declared.Writer.{Writer}
-use Rattle.write.specs.declared.Written.{Written}
 use Rattle.write.proofs.Ids.{id-some}
 use Rattle.write.proofs.Outcomes.{laid_out}
 use Rattle.rewrite.specs.Rewrite.{wrote_of, step_of, as_slow, Inside, laid_of}
@@ -50,9 +50,9 @@ module _ (s o : List ℕ) (c : Cursor) (w : Writer) where
   abbrev Same : Step → Type 0
   Same r = (as_slow s c w r ≡ r) × Inside s r
 
-  wrote-same : (d : Cursor) (x : Written) → Same (wrote_of c d x)
-  wrote-same d (Written.Bytes n v) = (refl, tt)
-  wrote-same d (Written.Refused e) = (refl, tt)
+  wrote-same : (d : Cursor) (x : Result (ℕ × Writer) Refusal) → Same (wrote_of c d x)
+  wrote-same d (Ok (n, v)) = (refl, tt)
+  wrote-same d (Err e) = (refl, tt)
 
   step_same : (x : Next) → Same (step_of s c w o x)
   step_same (Next.Command k d) = wrote-same d (call w s k o).answer
@@ -63,19 +63,19 @@ module _ (s o : List ℕ) (c : Cursor) (w : Writer) where
   slow-steps r left h = let q = step_same (next_from s c) in rw h.0 (q.0, q.1, h.1)
 
 -- one that laid out the bytes l, if they had room
-abbrev Laid : List ℕ → List ℕ → Placed → List ℕ → Type 0
+abbrev Laid : List ℕ → List ℕ → Option ℕ → List ℕ → Type 0
 Laid l o p left = (p ≡ put_answer l o) × (left ≡ put_bytes l o)
 
 module _ (s : List ℕ) (c : Cursor) (w : Writer) (e : ℕ) where
-  laid-after : (p : Placed) → as_slow s c w (laid_of c e (get_or s e 0) p) ≡ wrote_of c (word_read c e (get_or s e 0)) (written w p)
-  laid-after (Placed.Count n) = refl
-  laid-after Placed.NoRoom = refl
+  laid-after : (p : Option ℕ) → as_slow s c w (laid_of c e (get_or s e 0) p) ≡ wrote_of c (word_read c e (get_or s e 0)) (written w p)
+  laid-after (Some n) = refl
+  laid-after None = refl
 
-  laid-inside : e < length s → (p : Placed) → Inside s (laid_of c e (get_or s e 0) p)
-  laid-inside h (Placed.Count n) = h
-  laid-inside h Placed.NoRoom = tt
+  laid-inside : e < length s → (p : Option ℕ) → Inside s (laid_of c e (get_or s e 0) p)
+  laid-inside h (Some n) = h
+  laid-inside h None = tt
 
-module _ (s o : List ℕ) (c : Cursor) (w : Writer) (v : Valid s c) (e : ℕ) (r : Step) (p : Placed) (left : List ℕ) (q : r ≡ laid_of c e (get_or s e 0) p) where
+module _ (s o : List ℕ) (c : Cursor) (w : Writer) (v : Valid s c) (e : ℕ) (r : Step) (p : Option ℕ) (left : List ℕ) (q : r ≡ laid_of c e (get_or s e 0) p) where
   -- the command k was read
   steps : (k : Command) → Reads s c.place e k → {l : List ℕ} → Laid l o p left → writable w (meaning s k) ≡ true → w ≡ state_after w (meaning s k)
       → l ≡ layout (meaning s k) → Answers s o c w r left

@@ -1,18 +1,16 @@
 -- Rewriting: the commands read from a cursor, written one after the other into an output, up to the end, a refusal of reading, or the
 -- first command that may not be written or finds no room.
-use Rattle.std.specs.Prelude.{ℕ, ◌-◌, ◌<◌, cond, List, [], ◌∷◌, ◌++◌, leb, length, drop, get_or}
+use Rattle.command.specs.Refusals.{Ended}
+use Rattle.std.specs.Prelude.{ℕ, ◌-◌, ◌<◌, cond, List, [], ◌∷◌, ◌++◌, leb, length, drop, get_or, Option, Some, None, Result, Ok, Err}
 use Rattle.command.specs.Meaning.{Meaning, meaning}
 use Rattle.command.specs.declared.Refusal.{Refusal}
 use Rattle.parser.specs.All.{Commands, command, stop, finish, commands}
-use Rattle.parser_part.specs.declared.Next.{Next}
-use Rattle.text.specs.declared.Placed.{Placed}
+use Rattle.parser.specs.declared.Next.{Next}
 use Rattle.token.specs.Flat.{word_read}
 use Rattle.token.specs.declared.Cursor.{Cursor}
 use Rattle.write.specs.Call.{call}
 use Rattle.write.specs.Layout.{layout, writable, state_after}
 use Rattle.write.specs.declared.Writer.{Writer}
-use Rattle.write.specs.declared.Written.{Written}
-use Rattle.rewrite.specs.declared.Ended.{Ended}
 use Rattle.rewrite.specs.declared.Rewritten.{Rewritten}
 use Rattle.rewrite.specs.declared.Step.{Step}
 
@@ -37,10 +35,10 @@ rewritten s room w c (command k d more) =
     cond (writable w m)
     (cond (leb (length b) room)
     (after b (rewritten s (room - length b) (state_after w m) d more))
-    (ends w c (Ended.Refused Refusal.NoRoom d.line)))
-    (ends w c (Ended.Refused Refusal.NotWritable d.line))
-rewritten s room w c (stop e line d) = ends w d (Ended.Refused e line)
-rewritten s room w c (finish d) = ends w d Ended.Whole
+    (ends w c (Err (Refusal.NoRoom, d.line))))
+    (ends w c (Err (Refusal.NotWritable, d.line)))
+rewritten s room w c (stop e line d) = ends w d (Err (e, line))
+rewritten s room w c (finish d) = ends w d (Ok tt)
 
 unfoldable pub rewrite_of : List ℕ → Cursor → Writer → List ℕ → Outcome
 rewrite_of s c w o = rewritten s (length o) w c (commands s c)
@@ -60,14 +58,14 @@ filled b o = b ++ drop (length b) o
 
 -- ---- what one step of it answers and leaves
 -- a call's answer, for a command between the cursors c and d
-abbrev pub wrote_of : Cursor → Cursor → Written → Step
-wrote_of c d (Written.Bytes n v) = Step.Wrote d n v
-wrote_of c d (Written.Refused e) = Step.Ends c (Ended.Refused e d.line)
+abbrev pub wrote_of : Cursor → Cursor → Result (ℕ × Writer) Refusal → Step
+wrote_of c d (Ok (n, v)) = Step.Wrote d n v
+wrote_of c d (Err e) = Step.Ends c (Err (e, d.line))
 
 abbrev pub step_of : List ℕ → Cursor → Writer → List ℕ → Next → Step
 step_of s c w o (Next.Command k d) = wrote_of c d (call w s k o).answer
-step_of s c w o (Next.Refused e line d) = Step.Ends d (Ended.Refused e line)
-step_of s c w o (Next.Done d) = Step.Ends d Ended.Whole
+step_of s c w o (Next.Refused e line d) = Step.Ends d (Err (e, line))
+step_of s c w o (Next.Done d) = Step.Ends d (Ok tt)
 
 abbrev pub left_by : List ℕ → Writer → List ℕ → Next → List ℕ
 left_by s w o (Next.Command k d) = (call w s k o).left
@@ -86,6 +84,6 @@ Inside s (Step.Wrote d n v) = Unit {0}
 Inside s (Step.Ends d e) = Unit {0}
 
 -- one that the byte b at e ends, where only the room was in question
-abbrev pub laid_of : Cursor → ℕ → ℕ → Placed → Step
-laid_of c e b (Placed.Count n) = Step.Hit e n
-laid_of c e b Placed.NoRoom = Step.Ends c (Ended.Refused Refusal.NoRoom (word_read c e b).line)
+abbrev pub laid_of : Cursor → ℕ → ℕ → Option ℕ → Step
+laid_of c e b (Some n) = Step.Hit e n
+laid_of c e b None = Step.Ends c (Err (Refusal.NoRoom, (word_read c e b).line))

@@ -8,21 +8,13 @@ ghost use Rattle.token.specs.Read.{Valid};
 ghost use Rattle.rewrite.specs.Rewrite.{rewrite_of, answer_of, filled, wrote_of, step_of, left_by, as_slow, Inside, laid_of};
 ghost use Rattle.text.specs.Texts.{limit};
 
+pub use command::Ended;
 use command::Refusal;
 use fast::Fast;
-use fast_var::FastVar;
 use idcode::IdCode;
 use parser::Next;
-use text::Placed;
 use token::Cursor;
 use write::{Writer, Written};
-
-// How it ended: at the end of the input, or by a refusal of reading or writing and the reader's line then.
-#[derive(Clone, Copy)]
-pub enum Ended {
-    Whole,
-    Refused(Refusal, u64),
-}
 
 // The cursor after the last command that was written or refused by the reader, the writer's state, and how many bytes were written.
 #[derive(Clone, Copy)]
@@ -48,7 +40,7 @@ pub fn rewrite(input: &[u8], c: Cursor, w: Writer, out: &mut [u8]) -> Rewritten
     ensures bytes { out.new ≡ filled (rewrite_of input.now c w out.old).bytes out.old }
 {
     if !parser::placed(input, c) {
-        return answer(c, w, 0, Ended::Refused(Refusal::BadPlace, c.line));
+        return answer(c, w, 0, Err((Refusal::BadPlace, c.line)));
     }
     let mut cur = c;
     let mut state = w;
@@ -153,15 +145,15 @@ fn state_again(w: Writer) -> Writer
 }
 
 // The answer where only the room was in question, for a command from the cursor c on that the byte b at `end` ends.
-fn laid(p: Placed, c: Cursor, end: usize, b: u8) -> Step
+fn laid(p: Option<usize>, c: Cursor, end: usize, b: u8) -> Step
     requires { (end < limit) × (c.line ≤ limit + 1) }
     ensures { result ≡ laid_of c end b p }
 {
     match p {
-        Placed::Count(n) => Step::Hit(end, n),
-        Placed::NoRoom => {
+        Some(n) => Step::Hit(end, n),
+        None => {
             let d = token::word_read(c, end, b);
-            Step::Ends(c, Ended::Refused(Refusal::NoRoom, d.line))
+            Step::Ends(c, Err((Refusal::NoRoom, d.line)))
         }
     }
 }
@@ -172,11 +164,11 @@ fn step_var(input: &[u8], c: Cursor, w: Writer, out: &mut [u8]) -> Step
     ensures { (result ≡ step_of input.now c w out.old (next_from input.now c)) × (out.new ≡ left_by input.now w out.old (next_from input.now c)) }
 {
     match fast_var::parse_var(input, c.place) {
-        FastVar::Hit(v, end) => {
+        Some((v, end)) => {
             let d = token::word_read(c, end, input[end]);
             wrote(w.var(input, v, out), c, d)
         }
-        FastVar::Miss => step_slow(input, c, w, out),
+        None => step_slow(input, c, w, out),
     }
 }
 
@@ -186,8 +178,8 @@ fn step_slow(input: &[u8], c: Cursor, w: Writer, out: &mut [u8]) -> Step
 {
     match parser::next_command(input, c) {
         Next::Command(k, d) => wrote(w.command(input, k, out), c, d),
-        Next::Refused(e, line, d) => Step::Ends(d, Ended::Refused(e, line)),
-        Next::Done(d) => Step::Ends(d, Ended::Whole),
+        Next::Refused(e, line, d) => Step::Ends(d, Err((e, line))),
+        Next::Done(d) => Step::Ends(d, Ok(())),
     }
 }
 
@@ -195,7 +187,7 @@ fn wrote(r: Written, c: Cursor, d: Cursor) -> Step
     ensures { result ≡ wrote_of c d r }
 {
     match r {
-        Written::Bytes(n, v) => Step::Wrote(d, n, v),
-        Written::Refused(e) => Step::Ends(c, Ended::Refused(e, d.line)),
+        Ok((n, v)) => Step::Wrote(d, n, v),
+        Err(e) => Step::Ends(c, Err((e, d.line))),
     }
 }

@@ -1,4 +1,6 @@
 -- A row is read back from its words, and rows from the table that they fill, where their numbers fit the words.
+use Rattle.std.specs.Prelude.{Option, Some, None}
+use Rattle.rows.specs.declared.RowNumber.{RowNumber}
 use Prim.Native.Nat.{ℕ, ◌+◌, ◌*◌, ◌/◌, ◌^◌, ◌<◌}
 use mathlib.Core.Path.{◌≡◌, refl, sym, ap, ◌∙◌}
 use mathlib.Core.Bool.{true}
@@ -18,15 +20,14 @@ use Rattle.scope.specs.Index.{SizedIndex}
 use Rattle.scope.proofs.Types.{scope-back, var-back}
 use Rattle.scope.specs.declared.ReferenceIndex.{ReferenceIndex}
 use Rattle.rows.specs.Rows.{top, parent_word, parent_of, word_of, signed_of, index_form, index_first, index_second, is_index, index_of, words_in, listed, row_words, all_zero, row_of, words_at, row_at, words_of, rows_from, rows_of, filled}
-use Rattle.rows.specs.declared.Parent.{Parent}
 use Rattle.rows.specs.declared.Row.{Row}
 use Rattle.rows.specs.declared.RowWords.{RowWords}
 use Rattle.rows.proofs.Words.{ten, signed_is}
 
 -- ---- what fits: a parent that is not taken for top, a width and numbers of 32 bits
-abbrev pub ParentFits : Parent → Type 0
-ParentFits Parent.Top = Unit {0}
-ParentFits (Parent.Of n) = n.0 < top
+abbrev pub ParentFits : Option RowNumber → Type 0
+ParentFits None = Unit {0}
+ParentFits (Some n) = n.0 < top
 
 abbrev pub Fits : Row → Type 0
 Fits (Row.Scope p k t) = ParentFits p
@@ -34,10 +35,10 @@ Fits (Row.Var p v) = ParentFits p × (v.size < 2 ^ 32) × SizedIndex v.index
 Fits (Row.Comment p t) = ParentFits p
 Fits Row.None = Unit {0}
 
-parent-back : (p : Parent) → ParentFits p → parent_of (parent_word p) ≡ p
+parent-back : (p : Option RowNumber) → ParentFits p → parent_of (parent_word p) ≡ p
 unfolding parent_of
-parent-back Parent.Top f = refl
-parent-back (Parent.Of n) f = let apart : n.0 ≡ top → ⊥ = λ e. omega arith in rw (ne_eqb n.0 top apart)
+parent-back None f = refl
+parent-back (Some n) f = let apart : n.0 ≡ top → ⊥ = λ e. omega arith in rw (ne_eqb n.0 top apart)
 
 word-is : (z : ℤ) → word_of z ≡ of_z w32 z
 word-is (pos n) = refl

@@ -3,6 +3,8 @@
 --     is-scope, is-var, is-comment       the row of words, by its kind
 --     none-kind, scope-kind, var-kind    what a row is, by its kind
 --     no_row, no-var, row-held, var-held     row i by its words: what stands in for it where there is none, and what it is where there is one
+use Rattle.std.specs.Prelude.{Option}
+use Rattle.rows.specs.declared.RowNumber.{RowNumber}
 use Prim.Native.Nat.{ℕ, ◌+◌, ◌*◌, ◌/◌, ◌^◌, ◌<◌}
 use mathlib.Core.Path.{◌≡◌, refl, sym, ap}
 use mathlib.Core.Bool.{true, ◌&&◌}
@@ -12,7 +14,6 @@ use borrow.Author.Tests.{ltb-true, eqb-true}
 use lib.Dec.{eqb, ltb, leb}
 use lib.ListN.{length, get_or}
 use Rattle.rows.specs.Rows.{top, parent_word, parent_of, is_index, index_of, is_plain, text_at, text_of, var_of, text_words, row_of, words_at, row_at}
-use Rattle.rows.specs.declared.Parent.{Parent}
 use Rattle.rows.specs.declared.Row.{Row}
 use Rattle.rows.specs.declared.RowWords.{RowWords}
 use Rattle.scope.specs.Numbers.{scope_type_of, var_type_of}
@@ -71,13 +72,13 @@ none-kind (Row.Var p v) e = absurd (omega (arith, e))
 none-kind (Row.Comment p t) e = absurd (omega (arith, e))
 none-kind Row.None e = refl
 
-pub scope-kind : (r : Row) → kind_of r ≡ 1 → (p : Parent) × (k : ScopeType) × (t : Text) × (r ≡ Row.Scope p k t)
+pub scope-kind : (r : Row) → kind_of r ≡ 1 → (p : Option RowNumber) × (k : ScopeType) × (t : Text) × (r ≡ Row.Scope p k t)
 scope-kind (Row.Scope p k t) e = (p, k, t, refl)
 scope-kind (Row.Var p v) e = absurd (omega (arith, e))
 scope-kind (Row.Comment p t) e = absurd (omega (arith, e))
 scope-kind Row.None e = absurd (omega (arith, e))
 
-pub var-kind : (r : Row) → kind_of r ≡ 2 → (p : Parent) × (r ≡ Row.Var p (var_in r))
+pub var-kind : (r : Row) → kind_of r ≡ 2 → (p : Option RowNumber) × (r ≡ Row.Var p (var_in r))
 var-kind (Row.Scope p k t) e = absurd (omega (arith, e))
 var-kind (Row.Var p v) e = (p, refl)
 var-kind (Row.Comment p t) e = absurd (omega (arith, e))

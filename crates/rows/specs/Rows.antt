@@ -1,10 +1,10 @@
 -- A table's rows: the words of a row, and the row that words are.
-use Rattle.std.specs.Prelude.{ℕ, zero, suc, ◌+◌, ◌-◌, ◌*◌, ◌/◌, ◌^◌, Bool, true, cond, ◌&&◌, List, [], ◌∷◌, ◌++◌, eqb, ltb, leb, ℤ, pos, negsuc, length, get_or, take, drop}
+use Rattle.rows.specs.declared.RowNumber.{RowNumber}
+use Rattle.std.specs.Prelude.{ℕ, zero, suc, ◌+◌, ◌-◌, ◌*◌, ◌/◌, ◌^◌, Bool, true, cond, ◌&&◌, List, [], ◌∷◌, ◌++◌, eqb, ltb, leb, ℤ, pos, negsuc, length, get_or, take, drop, Option, Some, None}
 use Rattle.scope.specs.declared.ReferenceIndex.{ReferenceIndex}
 use Rattle.scope.specs.declared.Var.{Var}
 use Rattle.text.specs.declared.Text.{Text}
 use Rattle.scope.specs.Numbers.{scope_number, scope_type_of, var_number, var_type_of}
-use Rattle.rows.specs.declared.Parent.{Parent}
 use Rattle.rows.specs.declared.Row.{Row}
 use Rattle.rows.specs.declared.RowWords.{RowWords}
 
@@ -12,12 +12,12 @@ use Rattle.rows.specs.declared.RowWords.{RowWords}
 abbrev pub top : ℕ
 top = 2 ^ 64 - 1
 
-abbrev pub parent_word : Parent → ℕ
-parent_word Parent.Top = top
-parent_word (Parent.Of n) = n.0
+abbrev pub parent_word : Option RowNumber → ℕ
+parent_word None = top
+parent_word (Some n) = n.0
 
-unfoldable pub parent_of : ℕ → Parent
-parent_of w = cond (eqb w top) Parent.Top (Parent.Of (record { 0 = w }))
+unfoldable pub parent_of : ℕ → Option RowNumber
+parent_of w = cond (eqb w top) None (Some (record { 0 = w }))
 
 -- a number of 32 bits by two's complement
 abbrev pub word_of : ℤ → ℕ

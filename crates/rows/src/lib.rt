@@ -15,19 +15,12 @@ use text::Text;
 #[derive(Clone, Copy)]
 pub struct RowNumber(pub u64);
 
-// The scope that a row stands in.
-#[derive(Clone, Copy)]
-pub enum Parent {
-    Top,
-    Of(RowNumber),
-}
-
 // A row by value; none where there is none, or where the words are no row.
 #[derive(Clone, Copy)]
 pub enum Row {
-    Scope(Parent, ScopeType, Text),
-    Var(Parent, Var),
-    Comment(Parent, Text),
+    Scope(Option<RowNumber>, ScopeType, Text),
+    Var(Option<RowNumber>, Var),
+    Comment(Option<RowNumber>, Text),
     None,
 }
 
@@ -70,6 +63,7 @@ pub const VAR: u64 = 2;
 pub const COMMENT: u64 = 3;
 
 // Row `i` of a table.
+#[tactic(auto, unfolding(crate::specs::Rows::row_at))]
 pub fn row_at(rows: &[u64], i: usize) -> Row
     ensures { result ≡ row_at rows.now i }
 {
@@ -126,6 +120,7 @@ impl RowWords {
     }
 
     // The kind of the row that the words are; 0 where they are none.
+    #[tactic(auto, unfolding(crate::specs::Rows::row_of))]
     fn row_kind(self) -> u64
         ensures { result ≡ kind_of (row_of self) }
     {
@@ -154,25 +149,11 @@ impl RowWords {
     }
 
     // Whether the words are 0 that only a variable uses.
+    #[tactic(auto, unfolding(crate::specs::Rows::all_zero))]
     fn is_plain(self) -> bool
         ensures { result ≡ is_plain self }
     {
-        if self.width != 0 {
-            return false;
-        }
-        if self.code != 0 {
-            return false;
-        }
-        if self.form != 0 {
-            return false;
-        }
-        if self.first != 0 {
-            return false;
-        }
-        if self.second != 0 {
-            return false;
-        }
-        true
+        self.width == 0 && self.code == 0 && self.form == 0 && self.first == 0 && self.second == 0
     }
 
     // The variable of a variable's words.
@@ -194,34 +175,30 @@ impl RowWords {
     }
 }
 
-fn parent_of(w: u64) -> Parent
+#[tactic(auto, unfolding(crate::specs::Rows::parent_of))]
+fn parent_of(w: u64) -> Option<RowNumber>
     ensures { result ≡ parent_of w }
 {
     if w == TOP {
-        return Parent::Top;
+        return None;
     }
-    Parent::Of(RowNumber(w))
+    Some(RowNumber(w))
 }
 
-pub fn parent_word(p: Parent) -> u64
+pub fn parent_word(p: Option<RowNumber>) -> u64
     ensures { result ≡ parent_word p }
 {
     match p {
-        Parent::Top => TOP,
-        Parent::Of(n) => n.0,
+        None => TOP,
+        Some(n) => n.0,
     }
 }
 
+#[tactic(auto, unfolding(crate::specs::Rows::is_index))]
 pub fn is_index(form: u64, a: u64, b: u64) -> bool
     ensures { result ≡ is_index form a b }
 {
-    if 2 < form {
-        return false;
-    }
-    if most_first(form) < a {
-        return false;
-    }
-    b <= most_second(form)
+    form <= 2 && a <= most_first(form) && b <= most_second(form)
 }
 
 // The largest numbers of a form. Which form it is cannot be foreseen, so it chooses numbers, not ways.
@@ -237,6 +214,7 @@ fn most_second(form: u64) -> u64
     if form == 2 { 4294967295 } else { 0 }
 }
 
+#[tactic(auto, unfolding(crate::specs::Rows::index_of))]
 pub fn index_of(form: u64, a: u64, b: u64) -> ReferenceIndex
     ensures { result ≡ index_of form a b }
 {
@@ -270,6 +248,7 @@ fn word(n: i32) -> u64
 }
 
 // Stores the words of row `n`.
+#[tactic(auto, using(std::proofs::lemmas::Slice::overwrites), unfolding(crate::specs::Rows::listed, crate::specs::Rows::put))]
 fn put_row(rows: &mut [u64], n: usize, w: RowWords)
     requires { (n < 4096) × (10 * n + 10 ≤ length rows.old) }
     ensures { rows.new ≡ put rows.old n (listed w) }
@@ -277,36 +256,25 @@ fn put_row(rows: &mut [u64], n: usize, w: RowWords)
     let list = [
         w.kind, w.parent, w.number, w.width, w.code, w.start, w.len, w.form, w.first, w.second,
     ];
-    put_list(rows, n, &list);
-}
-
-fn put_list(rows: &mut [u64], n: usize, w: &[u64])
-    requires { (length w.now ≡ 10) × (n < 4096) × (10 * n + 10 ≤ length rows.old) }
-    ensures { rows.new ≡ put rows.old n w.now }
-{
     let at = WORDS * n;
-    let mut i = 0;
-    while i < w.len() {
-        rows[at + i] = w[i];
-        i += 1;
-    }
+    rows[at..at + WORDS].copy_from_slice(&list);
 }
 
-pub fn put_scope(rows: &mut [u64], n: usize, p: Parent, t: ScopeType, name: Text)
+pub fn put_scope(rows: &mut [u64], n: usize, p: Option<RowNumber>, t: ScopeType, name: Text)
     requires { (n < 4096) × (10 * n + 10 ≤ length rows.old) }
     ensures { rows.new ≡ put rows.old n (row_words (Row.Scope p t name)) }
 {
     put_row(rows, n, text_words(SCOPE, parent_word(p), t.number(), name));
 }
 
-pub fn put_comment(rows: &mut [u64], n: usize, p: Parent, t: Text)
+pub fn put_comment(rows: &mut [u64], n: usize, p: Option<RowNumber>, t: Text)
     requires { (n < 4096) × (10 * n + 10 ≤ length rows.old) }
     ensures { rows.new ≡ put rows.old n (row_words (Row.Comment p t)) }
 {
     put_row(rows, n, text_words(COMMENT, parent_word(p), 0, t));
 }
 
-pub fn put_var(rows: &mut [u64], n: usize, p: Parent, v: Var)
+pub fn put_var(rows: &mut [u64], n: usize, p: Option<RowNumber>, v: Var)
     requires { (n < 4096) × (10 * n + 10 ≤ length rows.old) }
     ensures { rows.new ≡ put rows.old n (row_words (Row.Var p v)) }
 {

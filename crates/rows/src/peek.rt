@@ -7,6 +7,7 @@ ghost use Rattle.rows.specs.Peek.{kind_of, parent_in, var_in};
 use scope::Var;
 
 // The kind of row `i`: SCOPE, VAR or COMMENT; 0 where there is none.
+#[tactic(auto, unfolding(crate::specs::Rows::row_at))]
 pub fn kind_at(rows: &[u64], i: usize) -> u64
     ensures { result ≡ kind_of (row_at rows.now i) }
 {

@@ -1,4 +1,5 @@
 -- Laws of indexes: the text of one is read back as itself, what that text is like, and what a text can be read as.
+use Rattle.std.specs.Prelude.{Option, Some, None}
 use Prim.Native.Nat.{ℕ, suc, ◌+◌, ◌-◌, ◌≤◌, ◌<◌}
 use mathlib.Core.Path.{◌≡◌, refl, sym, ap}
 use mathlib.Core.Bool.{true, false, ◌&&◌}
@@ -19,12 +20,10 @@ use Rattle.text.proofs.Blanks.{blank-no}
 use Rattle.text.proofs.Lists.{by-test, cond_both}
 use Rattle.text.proofs.Each.{Each, each_append, each_map}
 use Rattle.number.specs.Decimal.{is_digit, all_digits, signed_of}
-use Rattle.number.specs.declared.Signed.{Signed}
 use Rattle.number.proofs.Laws.{digit-range}
 use Rattle.number.proofs.Writing.{digits_decimal}
 use Rattle.number.proofs.Signs.{signed-some, signed-short, read-signed}
 use Rattle.scope.specs.Index.{padded, bit, range, up_to_byte, parse_inside, parse_index, index_text, SizedIndex}
-use Rattle.scope.specs.declared.ParsedIndex.{ParsedIndex}
 use Rattle.scope.specs.declared.ReferenceIndex.{ReferenceIndex}
 use Rattle.scope.proofs.Splitting.{padded-fits}
 
@@ -68,7 +67,7 @@ unfolding kept_of all_white
 all-kept [] h = refl
 all-kept (b ∷ s) h = rw (none_first (b ∷ s) h, ne_eqb 0 (suc (length s)) (λ z. omega arith), all-kept s h.1)
 
-number-back : (z : ℤ) → SFits w32 z → padded (signed_of z) ≡ Signed.Is z
+number-back : (z : ℤ) → SFits w32 z → padded (signed_of z) ≡ Some z
 unfolding padded part
 number-back z f =
     let w : List ℕ = signed_of z in
@@ -90,7 +89,7 @@ bracketed m =
     let n : length (m ++ 93 ∷ []) - 1 ≡ length m = omega (arith, length-append m (93 ∷ [])) in
     rw (n, get_or-append_seam m 93 [] 0, take-append_seam m (93 ∷ []))
 
-pub read-index : (x : ReferenceIndex) → Given x → SizedIndex x → parse_index (index_text x) ≡ ParsedIndex.Is x
+pub read-index : (x : ReferenceIndex) → Given x → SizedIndex x → parse_index (index_text x) ≡ Some x
 unfolding parse_inside up_to_byte
 read-index ReferenceIndex.None g f = absurd g
 read-index (ReferenceIndex.BitSelect a) g f =
@@ -138,23 +137,23 @@ index-begins (ReferenceIndex.BitSelect a) g = refl
 index-begins (ReferenceIndex.Range a b) g = refl
 
 -- ---- what a text is read as: an index, and its numbers have 32 bits
-one-read : (x : ReferenceIndex) (s : List ℕ) (n : Signed) → padded s ≡ n → bit n ≡ ParsedIndex.Is x → Given x × SizedIndex x
-one-read x s (Signed.Is a) p e = let q : ReferenceIndex.BitSelect a ≡ x = cc in rw (sym q) (tt, padded-fits s a p)
-one-read x s Signed.Refused p e = absurd (let z : ◌≡◌ {A = ℕ} 0 1 = cc in omega arith)
+one-read : (x : ReferenceIndex) (s : List ℕ) (n : Option ℤ) → padded s ≡ n → bit n ≡ Some x → Given x × SizedIndex x
+one-read x s (Some a) p e = let q : ReferenceIndex.BitSelect a ≡ x = cc in rw (sym q) (tt, padded-fits s a p)
+one-read x s None p e = absurd (let z : ◌≡◌ {A = ℕ} 0 1 = cc in omega arith)
 
-two-read : (x : ReferenceIndex) (s t : List ℕ) (n m : Signed) → padded s ≡ n → padded t ≡ m → range n m ≡ ParsedIndex.Is x → Given x × SizedIndex x
-two-read x s t (Signed.Is a) (Signed.Is b) p q e =
+two-read : (x : ReferenceIndex) (s t : List ℕ) (n m : Option ℤ) → padded s ≡ n → padded t ≡ m → range n m ≡ Some x → Given x × SizedIndex x
+two-read x s t (Some a) (Some b) p q e =
     let i : ReferenceIndex.Range a b ≡ x = cc in rw (sym i) (tt, (padded-fits s a p, padded-fits t b q))
-two-read x s t (Signed.Is a) Signed.Refused p q e = absurd (let z : ◌≡◌ {A = ℕ} 0 1 = cc in omega arith)
-two-read x s t Signed.Refused m p q e = absurd (let z : ◌≡◌ {A = ℕ} 0 1 = cc in omega arith)
+two-read x s t (Some a) None p q e = absurd (let z : ◌≡◌ {A = ℕ} 0 1 = cc in omega arith)
+two-read x s t None m p q e = absurd (let z : ◌≡◌ {A = ℕ} 0 1 = cc in omega arith)
 
-inside-read : (x : ReferenceIndex) (m : List ℕ) → parse_inside m ≡ ParsedIndex.Is x → Given x × SizedIndex x
+inside-read : (x : ReferenceIndex) (m : List ℕ) → parse_inside m ≡ Some x → Given x × SizedIndex x
 unfolding parse_inside
 inside-read x m e =
     by-test (eqb (length (up_to_byte 58 m)) (length m)) (λ q. one-read x m (padded m) refl (rw q at e))
     (λ q. two-read x (up_to_byte 58 m) (drop (length (up_to_byte 58 m) + 1) m) _ _ refl refl (rw q at e))
 
-pub index_read : (x : ReferenceIndex) (s : List ℕ) → parse_index s ≡ ParsedIndex.Is x → Given x × SizedIndex x
+pub index_read : (x : ReferenceIndex) (s : List ℕ) → parse_index s ≡ Some x → Given x × SizedIndex x
 unfolding parse_index
 index_read x [] e = absurd (let z : ◌≡◌ {A = ℕ} 0 1 = cc in omega arith)
 index_read x (b ∷ r) e =

@@ -1,6 +1,7 @@
 -- Laws of taking an index's text apart: its brackets, the first colon between them, and the numbers at its sides.
 use Prim.Native.Nat.{ℕ, ◌+◌, ◌-◌, ◌≤◌, ◌<◌}
 use mathlib.Core.Path.{◌≡◌, refl, sym, ◌∙◌, ap}
+use mathlib.Core.Logic.{◌≢◌}
 use mathlib.Core.List.{List, [], ◌∷◌}
 use native.Mathlib.Numerals.{unary_clauses}
 use native.Mathlib.Omega.{arith}
@@ -11,11 +12,13 @@ use lib.ListN.{length, take, drop, get_or, length-take, drop_of_length-le}
 use mir.Syntax.{w32}
 use mir.Val.{SFits, of_z, to_z}
 use mir.ValLaws.{to_z-of_z}
-use Rattle.text.proofs.Lists.{by-test, and-false, drop-step, take_rest}
-use Rattle.number.specs.declared.Signed.{Signed}
+use Rattle.std.specs.List.{AllWithin, HoldsAt}
+use Rattle.std.specs.Option.{MatchOption, unwrap_or}
+use Rattle.std.proofs.Common.{Option, Some, None}
+use Rattle.std.proofs.lemmas.Iterator.{index_from_first}
+use Rattle.text.proofs.Lists.{by-test, and-false, take_rest, drop-step}
 use Rattle.number.proofs.Signs.{signed-accepted}
 use Rattle.scope.specs.Index.{padded, bit, range, up_to_byte, parse_inside, parse_index}
-use Rattle.scope.specs.declared.ParsedIndex.{ParsedIndex}
 
 -- ---- the first x: before i there is none, and the answer is that from i on
 pub record Sought (x : ℕ) (s : List ℕ) (i : ℕ) : Type 0 where
@@ -39,6 +42,14 @@ module _ (x : ℕ) (s : List ℕ) (i : ℕ) (q : Sought x s i) where
   unfolding up_to_byte
   sought-none h = let e = q.ahead in omega (arith, rw (drop_of_length-le s h) at e, q.within)
 
+-- ---- the bytes before the first x are as many as its place, which r is, says
+pub up-length : (x : ℕ) (s : List ℕ) (r : Option ℕ)
+    → MatchOption r (AllWithin (λ b. b ≢ x) s 0 (length s)) (λ i. (i < length s) × HoldsAt (λ b. b ≡ x) s i × AllWithin (λ b. b ≢ x) s 0 i)
+    → unwrap_or r (length s) ≡ length (up_to_byte x s)
+unfolding up_to_byte
+up-length x s r h =
+    sym (index_from_first (λ l. length (up_to_byte x l)) (λ b. b ≡ x) (λ b. b ≢ x) refl (λ b l e. rw (eq-eqb b x e)) (λ b l e. rw (ne_eqb b x e) (omega arith)) s r h)
+
 -- what stands before it is the front of the text
 up-front : (x : ℕ) (s : List ℕ) → take (length (up_to_byte x s)) s ≡ up_to_byte x s
 unfolding up_to_byte
@@ -53,32 +64,34 @@ module _ (s : List ℕ) (n : ℕ) (e : n ≡ length (up_to_byte 58 s)) where
   pub colon-within : n ≤ length s
   colon-within = omega (arith, colon-front, length-take n s)
 
-  pub inside-bit : n ≡ length s → (x : Signed) → x ≡ padded s → bit x ≡ parse_inside s
+  pub inside-bit : n ≡ length s → (x : Option ℤ) → x ≡ padded s → bit x ≡ parse_inside s
   unfolding parse_inside
   inside-bit h x p = rw (p, eq-eqb (length (up_to_byte 58 s)) (length s) (sym e ∙ h))
 
-  pub inside-range : (n ≡ length s → ⊥) → (x y : Signed) → x ≡ padded (take n s) → y ≡ padded (take (length s - (n + 1)) (drop (n + 1) s))
+  pub inside-range : (n ≡ length s → ⊥) → (x y : Option ℤ) → x ≡ padded (take n s) → y ≡ padded (take (length s - (n + 1)) (drop (n + 1) s))
       → range x y ≡ parse_inside s
   unfolding parse_inside
   inside-range h x y p q =
       rw (p, q, take_rest s (n + 1), e, up-front 58 s, ne_eqb (length (up_to_byte 58 s)) (length s) (λ z. h (e ∙ z)))
 
+pub ruleset at_colon = (colon-front, colon-within)
+
 -- a number that was read has 32 bits, so that the machine holds it as it is
-pub padded-fits : (s : List ℕ) (z : ℤ) → padded s ≡ Signed.Is z → SFits w32 z
+pub padded-fits : (s : List ℕ) (z : ℤ) → padded s ≡ Some z → SFits w32 z
 unfolding padded
 padded-fits s z e = signed-accepted z _ e
 
-pub padded-held : (s : List ℕ) (z : ℤ) (x : Signed) → x ≡ padded s → x ≡ Signed.Is z → Signed.Is (to_z w32 (of_z w32 z)) ≡ padded s
-padded-held s z x p q = let e = sym p ∙ q in ap Signed.Is (to_z-of_z w32 z (padded-fits s z e)) ∙ sym e
+pub padded-held : (s : List ℕ) (z : ℤ) (x : Option ℤ) → x ≡ padded s → x ≡ Some z → Some (to_z w32 (of_z w32 z)) ≡ padded s
+padded-held s z x p q = let e = sym p ∙ q in ap Some (to_z-of_z w32 z (padded-fits s z e)) ∙ sym e
 
 -- ---- the brackets
-pub index_short : (s : List ℕ) → length s < 2 → ParsedIndex.Invalid ≡ parse_index s
+pub index_short : (s : List ℕ) → length s < 2 → None ≡ parse_index s
 unfolding parse_index
 index_short [] h = refl
 index_short (b ∷ []) h = rw (and-false (eqb b 91))
 index_short (b ∷ c ∷ s) h = absurd (omega arith)
 
-pub index-unopened : (s : List ℕ) → (get_or s 0 0 ≡ 91 → ⊥) → ParsedIndex.Invalid ≡ parse_index s
+pub index-unopened : (s : List ℕ) → (get_or s 0 0 ≡ 91 → ⊥) → None ≡ parse_index s
 unfolding parse_index
 index-unopened [] h = refl
 index-unopened (b ∷ s) h = rw (ne_eqb b 91 h)
@@ -87,7 +100,7 @@ index-unopened (b ∷ s) h = rw (ne_eqb b 91 h)
 last : (b c : ℕ) (s : List ℕ) → get_or (b ∷ c ∷ s) (length (b ∷ c ∷ s) - 1) 0 ≡ get_or (c ∷ s) (length (c ∷ s) - 1) 0
 last b c s = simp unary_clauses
 
-pub index-unclosed : (s : List ℕ) → 2 ≤ length s → (get_or s (length s - 1) 0 ≡ 93 → ⊥) → ParsedIndex.Invalid ≡ parse_index s
+pub index-unclosed : (s : List ℕ) → 2 ≤ length s → (get_or s (length s - 1) 0 ≡ 93 → ⊥) → None ≡ parse_index s
 unfolding parse_index
 index-unclosed [] l h = refl
 index-unclosed (b ∷ []) l h = absurd (omega arith)
@@ -99,3 +112,5 @@ unfolding parse_index
 index-inside [] l p q = absurd (omega arith)
 index-inside (b ∷ []) l p q = absurd (omega arith)
 index-inside (b ∷ c ∷ s) l p q = rw (eq-eqb b 91 p, eq-eqb _ 93 (rw last at q)) (simp unary_clauses)
+
+pub ruleset brackets = (index_short, index-unopened, index-unclosed, index-inside)

@@ -1,4 +1,5 @@
 -- Laws of the names and numbers of scopes' and of variables' types.
+use Rattle.std.specs.Prelude.{Option, Some, None}
 use Prim.Native.Nat.{ℕ, ◌<◌}
 use mathlib.Core.Path.{◌≡◌, refl}
 use mathlib.Core.Bool.{true}
@@ -13,11 +14,9 @@ use Rattle.text.proofs.Orders.{Order, kept, small}
 use Rattle.scope.specs.Numbers.{scope_order, scope_number, scope_type_of, var_order, var_number, var_type_of}
 use Rattle.scope.specs.Types.{scope_name, parse_scope_type, var_name, parse_var_type}
 use Rattle.scope.specs.declared.ScopeType.{ScopeType}
-use Rattle.scope.specs.declared.ParsedScopeType.{ParsedScopeType}
 use Rattle.scope.specs.declared.VarType.{VarType}
-use Rattle.scope.specs.declared.ParsedVarType.{ParsedVarType}
 
-each-scope : (k : ScopeType) → (parse_scope_type (bytes (scope_name k)) ≡ ParsedScopeType.Is k) × (is_name (bytes (scope_name k)) ≡ true) × (get_or scope_order (scope_number k) ScopeType.Fork ≡ k)
+each-scope : (k : ScopeType) → (parse_scope_type (bytes (scope_name k)) ≡ Some k) × (is_name (bytes (scope_name k)) ≡ true) × (get_or scope_order (scope_number k) ScopeType.Fork ≡ k)
 unfolding parse_scope_type lookup equal is_name is_plain is_blank
 each-scope ScopeType.Module = (refl, refl, refl)
 each-scope ScopeType.Task = (refl, refl, refl)
@@ -25,16 +24,16 @@ each-scope ScopeType.Function = (refl, refl, refl)
 each-scope ScopeType.Begin = (refl, refl, refl)
 each-scope ScopeType.Fork = (refl, refl, refl)
 
-pub scope-names : Named ScopeType ParsedScopeType scope_name ParsedScopeType.Is parse_scope_type
+pub scope-names : Named ScopeType (Option ScopeType) scope_name Some parse_scope_type
 unfolding parse_scope_type
 scope-names =
-    named scope_name ParsedScopeType.Is ParsedScopeType.Invalid (λ j k e. cc) (λ k e. cc)
+    named scope_name Some None (λ j k e. cc) (λ k e. cc)
     scope_order (λ k. ((each-scope k).0, (each-scope k).1))
 
 pub scope-order : Order scope_order ScopeType.Fork scope_number
 scope-order = record { back = λ k. (each-scope k).2; each = (refl, (refl, (refl, (refl, (refl, tt))))); whole = refl }
 
-each-var : (k : VarType) → (parse_var_type (bytes (var_name k)) ≡ ParsedVarType.Is k) × (is_name (bytes (var_name k)) ≡ true) × (get_or var_order (var_number k) VarType.String ≡ k)
+each-var : (k : VarType) → (parse_var_type (bytes (var_name k)) ≡ Some k) × (is_name (bytes (var_name k)) ≡ true) × (get_or var_order (var_number k) VarType.String ≡ k)
 unfolding parse_var_type lookup equal is_name is_plain is_blank
 each-var VarType.Event = (refl, refl, refl)
 each-var VarType.Integer = (refl, refl, refl)
@@ -55,10 +54,10 @@ each-var VarType.Wire = (refl, refl, refl)
 each-var VarType.WOr = (refl, refl, refl)
 each-var VarType.String = (refl, refl, refl)
 
-pub var-names : Named VarType ParsedVarType var_name ParsedVarType.Is parse_var_type
+pub var-names : Named VarType (Option VarType) var_name Some parse_var_type
 unfolding parse_var_type
 var-names =
-    named var_name ParsedVarType.Is ParsedVarType.Invalid (λ j k e. cc) (λ k e. cc)
+    named var_name Some None (λ j k e. cc) (λ k e. cc)
     var_order (λ k. ((each-var k).0, (each-var k).1))
 
 pub var-order : Order var_order VarType.String var_number

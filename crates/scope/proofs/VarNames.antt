@@ -1,5 +1,6 @@
 -- Laws of the list of variable types: its entry at each place, and a step of looking a name up in it.
-use Prim.Native.Nat.{ℕ, zero, suc, ◌+◌, ◌-◌, ◌<◌, ◌≤◌}
+use Rattle.std.specs.Prelude.{Option, Some, None}
+use Prim.Native.Nat.{ℕ, zero, suc, ◌-◌, ◌<◌, ◌≤◌}
 use Prim.Native.String.{String}
 use mathlib.Core.Path.{◌≡◌, refl, sym, ap, ◌∙◌}
 use mathlib.Core.Bool.{Bool, true, false, ◌&&◌}
@@ -7,19 +8,18 @@ use mathlib.Core.List.{List, [], ◌∷◌}
 use native.Mathlib.Omega.{arith}
 use native.Mathlib.Nat.{le_of_suc-le-suc, not-suc-le-zero}
 use lib.Dec.{leb}
-use lib.ListN.{length, get_or, drop, take, replicate, length-append}
+use lib.ListN.{length, get_or, take, replicate}
 use lib.Seq.{take_all, take-append_seam}
 use borrow.Author.Tests.{leb-true}
 use Rattle.text.specs.Bytes.{bytes, equal}
 use Rattle.text.specs.Names.{lookup}
 use Rattle.text.proofs.Lists.{both}
-use Rattle.text.proofs.Names.{hit, miss}
+use Rattle.std.proofs.lemmas.List.Recursion.{found_at, found_nowhere}
 use Rattle.text.proofs.Orders.{small}
 use Rattle.scope.specs.Numbers.{var_number, var_order}
 use Rattle.scope.specs.Types.{var_names, entry_of, entries_from, var_entries, named_from, var_types, parse_var_type}
 use Rattle.scope.specs.declared.VarType.{VarType}
 use Rattle.scope.specs.declared.VarName.{VarName}
-use Rattle.scope.specs.declared.ParsedVarType.{ParsedVarType}
 use Rattle.scope.proofs.Types.{var-order}
 
 -- the name and the type at a place of the list, and the entry that they make
@@ -45,60 +45,48 @@ pub listed : (l : List VarName) (i : ℕ) (d : VarName) → l ≡ var_entries �
 unfolding entry_at type_at name_at
 listed l i d e h = ap (λ (x : List VarName). get_or x i d) e ∙ entry-from var_order var_names i d h refl
 
-named-from : (ks : List VarType) (ns : List String) (i : ℕ) → i < length ks → length ks ≡ length ns
-    → drop i (named_from ks ns) ≡ (get_or ns i "", ParsedVarType.Is (get_or ks i VarType.String)) ∷ drop (suc i) (named_from ks ns)
-named-from [] ns i h e = absurd (not-suc-le-zero h)
-named-from (k ∷ ks) [] i h e = absurd (omega arith)
-named-from (k ∷ ks) (n ∷ ns) zero h e = refl
-named-from (k ∷ ks) (n ∷ ns) (suc i) h e = named-from ks ns i (le_of_suc-le-suc h) (omega arith)
+named-from : (ks : List VarType) (ns : List String) (i : ℕ) (d : String × (Option VarType)) → i < length ks → length ks ≡ length ns
+    → get_or (named_from ks ns) i d ≡ (get_or ns i "", Some (get_or ks i VarType.String))
+named-from [] ns i d h e = absurd (not-suc-le-zero h)
+named-from (k ∷ ks) [] i d h e = absurd (omega arith)
+named-from (k ∷ ks) (n ∷ ns) zero d h e = refl
+named-from (k ∷ ks) (n ∷ ns) (suc i) d h e = named-from ks ns i d (le_of_suc-le-suc h) (omega arith)
 
--- ---- looking a name up, from place i on
-pub record Sought (s : List ℕ) (i : ℕ) : Type 0 where
-  pub within : i ≤ 18
-  pub goes : lookup (drop i var_types) ParsedVarType.Invalid s ≡ parse_var_type s
+-- ---- looking a name up: none before place i is the text
+abbrev pub NotBefore : List ℕ → ℕ → Type 0
+NotBefore s i = (k : ℕ) → k < i → equal s (bytes (name_at k)) ≡ false
 
-pub sought-start : (s : List ℕ) → Sought s 0
-unfolding parse_var_type
-sought-start s = record { within = omega arith; goes = refl }
+-- a place of the table that a text is looked up in
+row : String × (Option VarType)
+row = ("", None)
 
-add-one : (i : ℕ) → suc i ≡ i + 1
-add-one i = omega arith
-
-split : (i : ℕ) → i < 18 → drop i var_types ≡ (name_at i, ParsedVarType.Is (type_at i)) ∷ drop (i + 1) var_types
+there : (k : ℕ) → k < 18 → get_or var_types k row ≡ (name_at k, Some (type_at k))
 unfolding name_at type_at
-split i h = named-from var_order var_names i h refl ∙ ap (λ (k : ℕ). (get_or var_names i "", ParsedVarType.Is (get_or var_order i VarType.String)) ∷ drop k var_types) (add-one i)
+there k h = named-from var_order var_names k row h refl
 
-pub sought-found : (s : List ℕ) (i : ℕ) → Sought s i → i < 18 → equal s (bytes (name_at i)) ≡ true → ParsedVarType.Is (entry_at i).var_type ≡ parse_var_type s
-unfolding entry_at
+missed : (s : List ℕ) (i : ℕ) → i ≤ 18 → NotBefore s i → (k : ℕ) → k < i → equal s (bytes (get_or var_types k row).0) ≡ false
+missed s i l q k h = rw (there k (omega arith)) (q k h)
+
+pub sought-found : (s : List ℕ) (i : ℕ) → NotBefore s i → i < 18 → equal s (bytes (name_at i)) ≡ true → Some (entry_at i).var_type ≡ parse_var_type s
+unfolding parse_var_type entry_at lookup
 sought-found s i q h t =
-    sym (hit (name_at i) (ParsedVarType.Is (type_at i)) (drop (i + 1) var_types) ParsedVarType.Invalid s t)
-    ∙ (ap (λ (l : List (String × ParsedVarType)). lookup l ParsedVarType.Invalid s) (sym (split i h)) ∙ q.goes)
+    sym (found_at (λ l. lookup l None s) (λ r. equal s (bytes r.0)) (λ r. r.1) None refl (λ r l. refl) var_types i row h (missed s i (omega arith) q) (rw (there i h) t)
+    ∙ ap (λ (r : String × (Option VarType)). r.1) (there i h))
 
-pub sought-more : (s : List ℕ) (i : ℕ) → Sought s i → i < 18 → equal s (bytes (name_at i)) ≡ false → Sought s (i + 1)
-sought-more s i q h t =
-    record {
-      within = omega arith;
-      goes =
-          sym (miss (name_at i) (ParsedVarType.Is (type_at i)) (drop (i + 1) var_types) ParsedVarType.Invalid s t)
-          ∙ (ap (λ (l : List (String × ParsedVarType)). lookup l ParsedVarType.Invalid s) (sym (split i h)) ∙ q.goes);
-    }
-
-pub sought-none : (s : List ℕ) (i : ℕ) → Sought s i → 18 ≤ i → ParsedVarType.Invalid ≡ parse_var_type s
-unfolding lookup
-sought-none s i q h = let e : i ≡ 18 = (let w = q.within in omega arith) in ap (λ (k : ℕ). lookup (drop k var_types) ParsedVarType.Invalid s) (sym e) ∙ q.goes
+pub sought-none : (s : List ℕ) → NotBefore s 18 → None ≡ parse_var_type s
+unfolding parse_var_type lookup
+sought-none s q =
+    sym (found_nowhere (λ l. lookup l None s) (λ r. equal s (bytes r.0)) (λ r. r.1) None refl (λ r l. refl) var_types row (missed s 18 (omega arith) q))
 
 -- ---- the bytes of an entry
-pub entry-long : (i : ℕ) → (entry_at i).len ≤ length (entry_at i).name
-unfolding entry_at
-entry-long i = let e = length-append (bytes (name_at i)) (replicate (9 - length (bytes (name_at i))) 0) in omega (arith, e)
-
 pub entry-text : (i : ℕ) → take (entry_at i).len (entry_at i).name ≡ bytes (name_at i)
 unfolding entry_at
 entry-text i = take-append_seam (bytes (name_at i)) (replicate (9 - length (bytes (name_at i))) 0)
 
-pub taken-long : (i : ℕ) → (entry_at i).len ≡ length (take (entry_at i).len (entry_at i).name)
-unfolding entry_at
-taken-long i = sym (ap length (take-append_seam (bytes (name_at i)) (replicate (9 - length (bytes (name_at i))) 0)))
+-- what a text that is compared with an entry's name is compared with
+pub named_there : (s : List ℕ) (l : List VarName) (i : ℕ) (d : VarName) → l ≡ var_entries → i < 18
+    → {t : Bool} → equal s (take (get_or l i d).len (get_or l i d).name) ≡ t → equal s (bytes (name_at i)) ≡ t
+named_there s l i d e h q = ap (equal s) (sym (ap (λ (x : VarName). take x.len x.name) (listed l i d e h) ∙ entry-text i)) ∙ q
 
 -- every type has a place
 pub number-below : (k : VarType) → var_number k < 18

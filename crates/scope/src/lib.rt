@@ -11,7 +11,6 @@ ghost use Rattle.scope.specs.Numbers.{scope_number, scope_type_of, var_number, v
 ghost use Rattle.scope.specs.Index.{parse_index, index_text, padded, up_to_byte, parse_inside};
 
 use idcode::IdCode;
-use number::Signed;
 use text::{Spelled, Text};
 
 // A type of scope, as used in the `$scope` command.
@@ -24,32 +23,27 @@ pub enum ScopeType {
     Fork,
 }
 
-#[derive(Clone, Copy)]
-pub enum ParsedScopeType {
-    Is(ScopeType),
-    Invalid,
-}
-
 impl ScopeType {
-    pub fn from_str(s: &[u8]) -> ParsedScopeType
+    #[tactic(auto, using(text::proofs::Names::hit, text::proofs::Names::miss, text::proofs::Names::ended), unfolding(crate::specs::Types::parse_scope_type))]
+    pub fn from_str(s: &[u8]) -> Option<ScopeType>
         ensures { result ≡ parse_scope_type s.now }
     {
         if text::equals(s, &names::MODULE) {
-            return ParsedScopeType::Is(ScopeType::Module);
+            return Some(ScopeType::Module);
         }
         if text::equals(s, &names::TASK) {
-            return ParsedScopeType::Is(ScopeType::Task);
+            return Some(ScopeType::Task);
         }
         if text::equals(s, &names::FUNCTION) {
-            return ParsedScopeType::Is(ScopeType::Function);
+            return Some(ScopeType::Function);
         }
         if text::equals(s, &names::BEGIN) {
-            return ParsedScopeType::Is(ScopeType::Begin);
+            return Some(ScopeType::Begin);
         }
         if text::equals(s, &names::FORK) {
-            return ParsedScopeType::Is(ScopeType::Fork);
+            return Some(ScopeType::Fork);
         }
-        ParsedScopeType::Invalid
+        None
     }
 
     pub fn spell(self) -> Spelled
@@ -68,16 +62,11 @@ impl ScopeType {
     pub fn number(self) -> u64
         ensures { result ≡ scope_number self }
     {
-        match self {
-            ScopeType::Module => 0,
-            ScopeType::Task => 1,
-            ScopeType::Function => 2,
-            ScopeType::Begin => 3,
-            ScopeType::Fork => 4,
-        }
+        self as u64
     }
 
     // The type of a number; numbers past the last mean the last.
+    #[tactic(auto, unfolding(crate::specs::Numbers::scope_type_of))]
     pub fn from_number(n: u64) -> ScopeType
         ensures { result ≡ scope_type_of n }
     {
@@ -112,12 +101,6 @@ pub enum VarType {
     Wire,
     WOr,
     String,
-}
-
-#[derive(Clone, Copy)]
-pub enum ParsedVarType {
-    Is(VarType),
-    Invalid,
 }
 
 // A type, its name and how many bytes that has; after the name stand zeros.
@@ -239,26 +222,20 @@ fn is_named(e: VarName, s: &[u8]) -> bool
     requires { e.len ≤ length e.name }
     ensures { result ≡ equal s.now (take e.len e.name) }
 {
-    let name = e.name;
-    let len = e.len;
-    text::equals(s, &name[..len])
+    text::equals(s, &e.name[..e.len])
 }
 
 impl VarType {
-    pub fn from_str(s: &[u8]) -> ParsedVarType
+    pub fn from_str(s: &[u8]) -> Option<VarType>
         ensures { result ≡ parse_var_type s.now }
     {
         let list = var_types();
-        let mut i: usize = 0;
-        while i < 18 {
-            let e = list[i];
+        for &e in &list {
             if is_named(e, s) {
-                let t = e.var_type;
-                return ParsedVarType::Is(t);
+                return Some(e.var_type);
             }
-            i += 1;
         }
-        ParsedVarType::Invalid
+        None
     }
 
     pub fn spell(self) -> Spelled
@@ -266,38 +243,18 @@ impl VarType {
     {
         let list = var_types();
         let e = list[self.number() as usize];
-        let name = e.name;
-        let len = e.len;
-        text::spell(&name[..len])
+        text::spell(&e.name[..e.len])
     }
 
     // The type's place in the list, from 0.
     pub fn number(self) -> u64
         ensures { result ≡ var_number self }
     {
-        match self {
-            VarType::Event => 0,
-            VarType::Integer => 1,
-            VarType::Parameter => 2,
-            VarType::Real => 3,
-            VarType::Reg => 4,
-            VarType::Supply0 => 5,
-            VarType::Supply1 => 6,
-            VarType::Time => 7,
-            VarType::Tri => 8,
-            VarType::TriAnd => 9,
-            VarType::TriOr => 10,
-            VarType::TriReg => 11,
-            VarType::Tri0 => 12,
-            VarType::Tri1 => 13,
-            VarType::WAnd => 14,
-            VarType::Wire => 15,
-            VarType::WOr => 16,
-            VarType::String => 17,
-        }
+        self as u64
     }
 
     // The type of a number; numbers past the last mean the last.
+    #[tactic(auto, unfolding(crate::specs::Numbers::var_type_of))]
     pub fn from_number(n: u64) -> VarType
         ensures { result ≡ var_type_of n }
     {
@@ -332,48 +289,36 @@ pub enum ReferenceIndex {
     Range(i32, i32),
 }
 
-#[derive(Clone, Copy)]
-pub enum ParsedIndex {
-    Is(ReferenceIndex),
-    Invalid,
-}
-
 impl ReferenceIndex {
-    pub fn from_str(s: &[u8]) -> ParsedIndex
+    #[tactic(auto, using(crate::proofs::Splitting::brackets))]
+    pub fn from_str(s: &[u8]) -> Option<ReferenceIndex>
         ensures { result ≡ parse_index s.now }
     {
-        if s.len() < 2 {
-            return ParsedIndex::Invalid;
-        }
-        let last = s.len() - 1;
-        if s[0] != b'[' {
-            return ParsedIndex::Invalid;
-        }
-        if s[last] != b']' {
-            return ParsedIndex::Invalid;
-        }
-        ReferenceIndex::from_inside(&s[1..last])
+        let [b'[', inside @ .., b']'] = s else {
+            return None;
+        };
+        ReferenceIndex::from_inside(inside)
     }
 
     // What stands between the brackets: a number, or two split at the first colon.
-    fn from_inside(s: &[u8]) -> ParsedIndex
+    #[tactic(auto, using(crate::proofs::Splitting::at_colon))]
+    fn from_inside(s: &[u8]) -> Option<ReferenceIndex>
         ensures { result ≡ parse_inside s.now }
     {
         let colon = find_colon(s);
         if colon == s.len() {
             return match number_in(s) {
-                Signed::Is(n) => ParsedIndex::Is(ReferenceIndex::BitSelect(n)),
-                Signed::Refused => ParsedIndex::Invalid,
+                Some(n) => Some(ReferenceIndex::BitSelect(n)),
+                None => None,
             };
         }
-        let Signed::Is(msb) = number_in(&s[..colon]) else {
-            return ParsedIndex::Invalid;
+        let Some(msb) = number_in(&s[..colon]) else {
+            return None;
         };
-        let start = colon + 1;
-        let Signed::Is(lsb) = number_in(&s[start..]) else {
-            return ParsedIndex::Invalid;
+        let Some(lsb) = number_in(&s[colon + 1..]) else {
+            return None;
         };
-        ParsedIndex::Is(ReferenceIndex::Range(msb, lsb))
+        Some(ReferenceIndex::Range(msb, lsb))
     }
 
     pub fn spell(self) -> Spelled
@@ -391,18 +336,12 @@ impl ReferenceIndex {
 fn find_colon(s: &[u8]) -> usize
     ensures { result ≡ length (up_to_byte 58 s.now) }
 {
-    let mut i = 0;
-    while i < s.len() {
-        if s[i] == b':' {
-            return i;
-        }
-        i += 1;
-    }
-    i
+    s.iter().position(|&b| b == b':').unwrap_or(s.len())
 }
 
 // A number with White_Space round it.
-fn number_in(s: &[u8]) -> Signed
+#[tactic(auto, unfolding(crate::specs::Index::padded))]
+fn number_in(s: &[u8]) -> Option<i32>
     ensures { result ≡ padded s.now }
 {
     number::parse_i32(text::part(s, white_space::trim(s)))

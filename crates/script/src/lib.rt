@@ -2,9 +2,8 @@
 // case"). Nothing is promised of these but that they are safe and end.
 #![tactic(auto)]
 
-use command::{Command, Open, SimulationCommand, Time};
+use command::{Command, SimulationCommand, Time};
 use idcode::IdCode;
-use number::{Number32, Signed};
 use replay::word;
 use scope::{ReferenceIndex, ScopeType, VarType};
 use text::Text;
@@ -18,31 +17,27 @@ pub fn number_at(line: &[u8], k: u64) -> u64 {
 
 // Stores the numbers of the words from the k-th on, as many as fit, and answers how many words there were.
 pub fn numbers_from(line: &[u8], k: u64, into: &mut [u64]) -> usize {
-    let mut n: usize = 0;
-    while n < into.len() {
-        let at = std::num::wrapping_add_u64(k, n as u64);
-        if replay::words_from(line, at).len() == 0 {
+    for n in 0..into.len() {
+        let at = k.wrapping_add(n as u64);
+        if replay::words_from(line, at).is_empty() {
             return n;
         }
         into[n] = number_at(line, at);
-        n += 1;
     }
-    n
+    into.len()
 }
 
 fn narrow_at(line: &[u8], k: u64) -> u32 {
-    let n = number::parse_u32(word(line, k));
-    match n {
-        Number32::Is(v) => v,
-        Number32::Refused => 0,
+    match number::parse_u32(word(line, k)) {
+        Some(v) => v,
+        None => 0,
     }
 }
 
 fn signed_at(line: &[u8], k: u64) -> i32 {
-    let n = number::parse_i32(word(line, k));
-    match n {
-        Signed::Is(v) => v,
-        Signed::Refused => 0,
+    match number::parse_i32(word(line, k)) {
+        Some(v) => v,
+        None => 0,
     }
 }
 
@@ -67,18 +62,18 @@ fn index_in(line: &[u8]) -> ReferenceIndex {
 // A simulation command is counted from 1.
 fn sim_of(n: u64) -> SimulationCommand {
     if n == 0 {
-        return SimulationCommand::Dumpvars;
+        SimulationCommand::Dumpvars
+    } else {
+        SimulationCommand::from_number(n - 1)
     }
-    SimulationCommand::from_number(n - 1)
 }
 
 // What the k-th word says is open: 0 for nothing.
-pub fn open_at(line: &[u8], k: u64) -> Open {
-    let n = number_at(line, k);
-    if n == 0 {
-        return Open::None;
+pub fn open_at(line: &[u8], k: u64) -> Option<SimulationCommand> {
+    match number_at(line, k) {
+        0 => None,
+        n => Some(sim_of(n)),
     }
-    Open::Of(sim_of(n))
 }
 
 // The words at which a call's line has its number, its type, its text and its index. No line has a tenth word.

@@ -8,11 +8,9 @@ use lib.ListN.{length}
 use Rattle.parser.specs.Next.{next_from}
 use Rattle.token.specs.declared.Cursor.{Cursor}
 use Rattle.command.specs.declared.Command.{Command}
-use Rattle.command.specs.declared.Refusal.{Refusal}
-use Rattle.parser_part.specs.declared.Next.{Next}
+use Rattle.parser.specs.declared.Next.{Next}
 use Rattle.parser.proofs.Ahead.{command-past}
 use Rattle.tally.specs.Count.{counted, counts}
-use Rattle.tally.specs.declared.Count.{Count}
 
 pub enough : (k m : ℕ) (s : List ℕ) (n : ℕ) (c : Cursor) → length s - c.place < k → length s - c.place < m → counts k s n c ≡ counts m s n c
 unfolding counts
@@ -38,9 +36,3 @@ module _ (s : List ℕ) (n : ℕ) (c : Cursor) where
   count-step k d e =
       let h = command-past s c k d e in
       enough (length s + 1) (length s) s (n + 1) d (omega arith) (omega (arith, h.1, h.0.valid.within)) ∙ sym (one _ e)
-
-  pub count-refused : (r : Refusal) (l : ℕ) (d : Cursor) → next_from s c ≡ Next.Refused r l d → counts (length s + 1) s n c ≡ Count.Stopped r l n d
-  count-refused r l d e = one _ e
-
-  pub count-done : (d : Cursor) → next_from s c ≡ Next.Done d → counts (length s + 1) s n c ≡ Count.All n d
-  count-done d e = one _ e

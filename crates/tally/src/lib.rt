@@ -8,29 +8,26 @@ use command::Refusal;
 use parser::Next;
 use token::Cursor;
 
-#[derive(Clone, Copy)]
-pub enum Count {
-    All(u64, Cursor),
-    Stopped(Refusal, u64, u64, Cursor),
-}
+pub type Count = Result<(u64, Cursor), (Refusal, u64, u64, Cursor)>;
 
+#[tactic(auto, unfolding(crate::specs::Count::counts))]
 pub fn count_commands(input: &[u8], c: Cursor) -> Count
     ensures { result ≡ count_from input.now c }
 {
     let mut n: u64 = 0;
     let mut cur = c;
+    // No turn is counted: every command moves the cursor on.
     loop {
-        let step = parser::next_command(input, cur);
-        match step {
+        match parser::next_command(input, cur) {
             Next::Command(_, next) => {
                 n += 1;
                 cur = next;
             }
             Next::Refused(e, line, next) => {
-                return Count::Stopped(e, line, n, next);
+                return Err((e, line, n, next));
             }
             Next::Done(next) => {
-                return Count::All(n, next);
+                return Ok((n, next));
             }
         }
     }

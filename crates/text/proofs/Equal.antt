@@ -1,14 +1,14 @@
 -- Laws of equal byte strings, of marks, and of the first mark.
-use Prim.Native.Nat.{ℕ, ◌+◌, ◌≤◌, ◌<◌}
+use Prim.Native.Nat.{ℕ, ◌≤◌, ◌<◌}
 use mathlib.Core.Path.{◌≡◌, refl, sym, ap, ap₂, ◌∙◌}
 use mathlib.Core.Bool.{Bool, true, false, ◌&&◌, false≢true}
 use mathlib.Core.List.{List, [], ◌∷◌, ◌++◌}
 use native.Mathlib.Omega.{arith}
 use borrow.Author.Tests.{eq-eqb, ne_eqb, eqb-true}
 use lib.Dec.{eqb}
-use lib.ListN.{length, take, drop, get_or, drop_of_length-le}
+use lib.ListN.{length, take}
 use Rattle.text.specs.Bytes.{equal, has, starts}
-use Rattle.text.proofs.Lists.{by-test, both, neither, drop-step}
+use Rattle.text.proofs.Lists.{by-test, both, neither}
 
 pub equal-refl : (l : List ℕ) → equal l l ≡ true
 unfolding equal
@@ -23,22 +23,6 @@ equal-true (x ∷ a) [] e = absurd (false≢true e)
 equal-true (x ∷ a) (y ∷ b) e =
     let h = both (eqb x y) (equal a b) e in
     ap₂ (λ (h : ℕ) (t : List ℕ). h ∷ t) (eqb-true x y h.0) (equal-true a b h.1)
-
-pub equal-short : (a b : List ℕ) → (length a ≡ length b → ⊥) → equal a b ≡ false
-equal-short a b h = by-test (equal a b) (λ q. absurd (h (ap length (equal-true a b q)))) (λ q. q)
-
-module _ (a b : List ℕ) (i : ℕ) (ha : i < length a) (hb : i < length b) where
-  pub equal-step : get_or a i 0 ≡ get_or b i 0 → equal (drop (i + 1) a) (drop (i + 1) b) ≡ equal (drop i a) (drop i b)
-  unfolding equal
-  equal-step e = rw (drop-step a i ha, drop-step b i hb, eq-eqb _ _ e)
-
-  pub equal-stop : (get_or a i 0 ≡ get_or b i 0 → ⊥) → equal (drop i a) (drop i b) ≡ false
-  unfolding equal
-  equal-stop e = rw (drop-step a i ha, drop-step b i hb, ne_eqb _ _ e)
-
-pub equal-done : (a b : List ℕ) (i : ℕ) → length a ≤ i → length b ≤ i → equal (drop i a) (drop i b) ≡ true
-unfolding equal
-equal-done a b i ha hb = rw (drop_of_length-le a ha, drop_of_length-le b hb)
 
 -- ---- marks
 eqb-sym : (x y : ℕ) → eqb x y ≡ eqb y x
@@ -80,18 +64,3 @@ unfolding starts
 starts_more [] r z h = refl
 starts_more (x ∷ m) [] z h = absurd (omega arith)
 starts_more (x ∷ m) (b ∷ r) z h = ap (λ (u : Bool). eqb x b && u) (starts_more m r z (omega arith))
-
--- a mark of one byte
-and-true : (t : Bool) → t ≡ (t && true)
-and-true true = refl
-and-true false = refl
-
-pub starts_none : (b : ℕ) (s : List ℕ) → length s ≡ 0 → false ≡ starts (b ∷ []) s
-unfolding starts
-starts_none b [] h = refl
-starts_none b (x ∷ s) h = absurd (omega arith)
-
-pub starts-byte : (b : ℕ) (s : List ℕ) → (length s ≡ 0 → ⊥) → eqb (get_or s 0 0) b ≡ starts (b ∷ []) s
-unfolding starts
-starts-byte b [] h = absurd (h refl)
-starts-byte b (x ∷ s) h = eqb-sym x b ∙ and-true (eqb b x)

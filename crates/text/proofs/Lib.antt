@@ -10,3 +10,5 @@ pub mod Blanks
 pub mod Has
 pub mod Printable
 pub mod Orders
+pub mod Slices
+pub mod Pairs

@@ -1,15 +1,17 @@
 -- Rows: a text copied from its start into a row of zeros, or into a buffer.
-use Prim.Native.Nat.{ℕ, zero, suc, ◌+◌, ◌-◌, ◌≤◌, ◌<◌}
+use Rattle.std.specs.Prelude.{Some, None}
+use Prim.Native.Nat.{ℕ, zero, suc, ◌+◌, ◌-◌, ◌≤◌, ◌<◌, min}
 use mathlib.Core.Path.{◌≡◌, refl, sym, ◌∙◌, ap}
-use mathlib.Core.List.{List, [], ◌∷◌, ◌++◌}
+use mathlib.Core.List.{List, [], ◌∷◌, ◌++◌, append_assoc}
 use native.Mathlib.Numerals.{add-one}
 use native.Mathlib.Omega.{arith}
 use borrow.Author.Tests.{le-leb, lt-leb}
 use lib.ListN.{length, get_or, take, drop, set, replicate, length-append, length-drop, length-take}
-use lib.Seq.{drop-cons, take-suc, set_at, length-take-le, append_snoc, take_all, take-append_seam, get_or-append-add}
+use lib.Seq.{drop-cons, take-suc, set_at, length-take-le, append_snoc, take_all, take-append_seam, drop-append_seam}
+use borrow.Rule.Slice.PartMut.{put_mid}
+use Rattle.std.proofs.lemmas.List.{drop-replicate, take_min}
 use Rattle.text.specs.Texts.{spelled, text_in, put_answer, put_bytes}
 use Rattle.text.specs.declared.Spelled.{Spelled}
-use Rattle.text.specs.declared.Placed.{Placed}
 
 -- ---- a row of 32 bytes: the first n bytes of t, then zeros
 pub record Row (t bytes : List ℕ) (n : ℕ) : Type 0 where
@@ -42,40 +44,39 @@ module _ (t bytes : List ℕ) (n : ℕ) (r : Row t bytes n) where
       let same : take n t ≡ t = take_all n t h in
       rw (take_all 32 t (omega (arith, r.room))) (row-spelled t bytes n (omega (arith, r.within)) (rw same at r.made))
 
-  pub row-full : 32 ≤ n → record { bytes = bytes; len = n } ≡ spelled (take 32 t)
-  row-full h =
-      let e : n ≡ 32 = omega (arith, r.room) in
-      rw e (row-spelled (take 32 t) bytes 32 (length-take-le 32 t (omega (arith, r.within))) (rw e at r.made))
+-- a copy at the start of a row of zeros, where made is what stands there then
+pub row_copied : (s made : List ℕ) (n : ℕ) → n ≡ min (length s) 32 → made ≡ take n s
+    → record { bytes = made ++ drop n (replicate 32 0); len = n } ≡ spelled (take 32 s)
+row_copied s made n h e =
+    let m : n ≡ min 32 (length s) = omega arith in
+    let same : take n s ≡ take 32 s = rw m (take_min 32 s) in
+    let l : length (take 32 s) ≡ n = omega (arith, length-take 32 s) in
+    row-spelled (take 32 s) _ n l (rw (e, same, drop-replicate {X = ℕ} n 32 0))
 
-take-front : (n : ℕ) (a b : List ℕ) → take (length (take n a)) (a ++ b) ≡ take n a
-take-front zero a b = refl
-take-front (suc n) [] b = refl
-take-front (suc n) (x ∷ a) b = ap (λ (l : List ℕ). x ∷ l) (take-front n a b)
+-- the front of two texts
+take-both : (n : ℕ) (a b : List ℕ) → take n (a ++ b) ≡ take n a ++ take (n - length a) b
+take-both zero a b = let z : 0 - length a ≡ 0 = omega arith in rw z
+take-both (suc n) [] b = let z : suc n - 0 ≡ suc n = omega arith in rw z
+take-both (suc n) (x ∷ a) b = let z : suc n - suc (length a) ≡ n - length a = omega arith in rw (z, take-both n a b)
 
--- a short text that goes on: the row of a is a row of a ++ b
-module _ (a b : List ℕ) (x : Spelled) (e : x ≡ spelled (take 32 a)) where
-  len_is : x.len ≡ length (take 32 a)
-  len_is = ap (λ (y : Spelled). y.len) e
-
-  pub joined-row : Row (a ++ b) x.bytes x.len
-  joined-row =
-      let l = length-take 32 a in
-      let front : take x.len (a ++ b) ≡ take 32 a = rw len_is (take-front 32 a b) in
-      record {
-        room = omega (arith, len_is);
-        within = omega (arith, len_is, length-append a b);
-        made = rw front (ap (λ (y : Spelled). y.bytes) e ∙ rw len_is);
-      }
-
-  pub joined_at : x.len < 32 → x.len ≡ length a + 0
-  joined_at h = omega (arith, len_is, length-take 32 a)
-
--- the bytes of b go on where a has ended
-pub join_more : (a b bytes : List ℕ) (n i : ℕ) → Row (a ++ b) bytes n → n < 32 → n ≡ length a + i → i < length b
-    → Row (a ++ b) (set bytes n (get_or b i 0)) (n + 1)
-join_more a b bytes n i r g e h =
-    let here : get_or (a ++ b) n 0 ≡ get_or b i 0 = rw e (get_or-append-add a b i 0) in
-    rw here at (row_more (a ++ b) bytes n r g (omega (arith, length-append a b)))
+-- a copy behind the text that stands in a row, where more is what stands there then
+pub row_joined : (a b : List ℕ) (x : Spelled) (more : List ℕ) (m : ℕ) → x ≡ spelled (take 32 a) → m ≡ min (length b) (32 - x.len) → more ≡ take m b
+    → record { bytes = put_mid x.len (x.len + m - x.len) x.bytes more; len = x.len + m } ≡ spelled (take 32 (a ++ b))
+row_joined a b x more m h k e =
+    let t = take 32 a in
+    let row : x.bytes ≡ t ++ replicate (32 - length t) 0 = ap (λ (y : Spelled). y.bytes) h in
+    let n : x.len ≡ length t = ap (λ (y : Spelled). y.len) h in
+    let l : length t ≡ min 32 (length a) = length-take 32 a in
+    let u : m ≡ min (32 - length a) (length b) = omega arith in
+    let same : take 32 (a ++ b) ≡ t ++ take m b = rw (u, take_min (32 - length a) b) (take-both 32 a b) in
+    let d : length t + m - length t ≡ m = omega arith in
+    let lm : length (take m b) ≡ m = omega (arith, length-take m b) in
+    let all : length (t ++ take m b) ≡ length t + m = omega (arith, length-append t (take m b)) in
+    let r : 32 - length t - m ≡ 32 - (length t + m) = omega arith in
+    rw (same, n)
+    (row-spelled (t ++ take m b) _ (length t + m) all
+    (rw (row, d, e, take-append_seam t (replicate (32 - length t) 0), drop-append_seam t (replicate (32 - length t) 0), drop-replicate {X = ℕ} m (32 - length t) 0, r)
+    (sym (append_assoc t (take m b) (replicate (32 - (length t + m)) 0)))))
 
 -- ---- a buffer that begins with the first i bytes of the text t
 pub record Copied (t old out : List ℕ) (i : ℕ) : Type 0 where
@@ -107,14 +108,14 @@ module _ (t old out : List ℕ) (i : ℕ) (c : Copied t old out i) where
             (sym (append_snoc (take i t) (get_or t i 0) (drop (suc i) old)));
       }
 
-  pub copy_done : length t ≤ i → (Placed.Count i ≡ put_answer t old) × (out ≡ put_bytes t old)
+  pub copy_done : length t ≤ i → (Some i ≡ put_answer t old) × (out ≡ put_bytes t old)
   unfolding put_answer put_bytes
   copy_done h =
       let e : i ≡ length t = omega (arith, c.within) in
       let all : take i t ≡ t = take_all i t h in
-      rw (le-leb (length t) (length old) c.room) (ap Placed.Count e, c.made ∙ rw (all, e))
+      rw (le-leb (length t) (length old) c.room) (ap Some e, c.made ∙ rw (all, e))
 
-pub no_room : (t old : List ℕ) → length old < length t → (Placed.NoRoom ≡ put_answer t old) × (old ≡ put_bytes t old)
+pub no_room : (t old : List ℕ) → length old < length t → (None ≡ put_answer t old) × (old ≡ put_bytes t old)
 unfolding put_answer put_bytes
 no_room t old h = rw (lt-leb (length t) (length old) h) (refl, refl)
 

@@ -1,6 +1,5 @@
 -- Texts: places in a buffer, short texts by value, and a text put at the start of a buffer.
-use Rattle.std.specs.Prelude.{ℕ, ◌+◌, ◌-◌, Bool, cond, not, ◌&&◌, List, ◌++◌, leb, length, take, drop, replicate}
-use Rattle.text.specs.declared.Placed.{Placed}
+use Rattle.std.specs.Prelude.{ℕ, ◌+◌, ◌-◌, Bool, cond, not, ◌&&◌, List, ◌++◌, leb, length, take, drop, replicate, Option, Some, None}
 use Rattle.text.specs.declared.Spelled.{Spelled}
 use Rattle.text.specs.declared.Text.{Text}
 
@@ -33,8 +32,8 @@ unfoldable pub text_in : Spelled → List ℕ
 text_in t = take t.len t.bytes
 
 -- a text at the start of a buffer: the answer, and the buffer then
-unfoldable pub put_answer : List ℕ → List ℕ → Placed
-put_answer t out = cond (leb (length t) (length out)) (Placed.Count (length t)) Placed.NoRoom
+unfoldable pub put_answer : List ℕ → List ℕ → Option ℕ
+put_answer t out = cond (leb (length t) (length out)) (Some (length t)) None
 
 unfoldable pub put_bytes : List ℕ → List ℕ → List ℕ
 put_bytes t out = cond (leb (length t) (length out)) (t ++ drop (length t) out) out

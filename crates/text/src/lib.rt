@@ -20,91 +20,46 @@ pub struct Spelled {
     pub len: usize,
 }
 
-#[derive(Clone, Copy)]
-pub enum Found {
-    At(usize),
-    Nothing,
-}
-
-// How many bytes were put at a buffer's start. Where they had no room, nothing changed.
-#[derive(Clone, Copy)]
-pub enum Placed {
-    Count(usize),
-    NoRoom,
-}
-
+#[tactic(auto, unfolding(crate::specs::Bytes::is_blank))]
 pub fn whitespace_byte(b: u8) -> bool
     ensures { result ≡ is_blank b }
 {
-    if b == b'\n' {
-        return true;
-    }
-    if b == b' ' {
-        return true;
-    }
-    if b == b'\r' {
-        return true;
-    }
-    b == b'\t'
+    matches!(b, b'\n' | b' ' | b'\r' | b'\t')
 }
 
 // Whether a text lies in the buffer. No sum is made, so none wraps.
+#[tactic(auto, unfolding(crate::specs::Texts::is_within))]
 pub fn within(s: &[u8], t: Text) -> bool
     ensures { result ≡ is_within s.now t }
 {
-    let start = t.start;
-    let len = t.len;
-    if s.len() < start {
-        return false;
-    }
-    let left = s.len() - start;
-    len <= left
+    t.start <= s.len() && t.len <= s.len() - t.start
 }
 
 // An input has no more bytes than this.
 pub const LIMIT: usize = 4294967295;
 
 // What refusal 25 asks of a text: whether the input is over the limit, or the text outside it.
+#[tactic(auto, unfolding(crate::specs::Texts::outside))]
 pub fn outside(s: &[u8], t: Text) -> bool
     ensures { result ≡ is_outside s.now t }
 {
-    if LIMIT < s.len() {
-        return true;
-    }
-    !within(s, t)
+    LIMIT < s.len() || !within(s, t)
 }
 
 // The bytes of a text; of one that does not lie in the buffer, those that do.
+#[tactic(auto, unfolding(crate::specs::Texts::part))]
 pub fn part(s: &[u8], t: Text) -> &[u8]
     ensures { result.now ≡ part_of s.now t }
 {
-    let start = t.start;
-    let len = t.len;
-    if s.len() < start {
-        return &s[0..0];
-    }
-    if s.len() - start < len {
-        return &s[start..];
-    }
-    let end = start + len;
-    &s[start..end]
+    front(s.get(t.start..).unwrap_or(&[]), t.len)
 }
 
 // Whether two byte strings are equal.
+#[tactic(auto, using(crate::proofs::Slices::compared))]
 pub fn equals(a: &[u8], b: &[u8]) -> bool
     ensures { result ≡ equal a.now b.now }
 {
-    if a.len() != b.len() {
-        return false;
-    }
-    let mut i = 0;
-    while i < a.len() {
-        if a[i] != b[i] {
-            return false;
-        }
-        i += 1;
-    }
-    true
+    a == b
 }
 
 // Whether a text is the fixed byte string `word`.
@@ -118,10 +73,7 @@ pub fn is_word(s: &[u8], t: Text, word: &[u8]) -> bool
 pub fn starts_with(s: &[u8], b: u8) -> bool
     ensures { result ≡ starts (b ∷ []) s.now }
 {
-    if s.len() == 0 {
-        return false;
-    }
-    s[0] == b
+    s.starts_with(&[b])
 }
 
 // A text by value; its first 32 bytes where it has more.
@@ -129,67 +81,47 @@ pub fn spell(s: &[u8]) -> Spelled
     ensures { result ≡ spelled (take 32 s.now) }
 {
     let mut bytes = [0u8; 32];
-    let mut n: usize = 0;
-    while n < 32 {
-        if s.len() <= n {
-            return Spelled { bytes, len: n };
-        }
-        bytes[n] = s[n];
-        n += 1;
-    }
-    Spelled { bytes, len: n }
+    let len = s.len().min(32);
+    bytes[..len].copy_from_slice(&s[..len]);
+    Spelled { bytes, len }
 }
 
 // Two short texts joined; the first 32 bytes where they have more.
+#[tactic(auto, unfolding(crate::specs::Texts::text_in))]
 pub fn join(a: Spelled, b: Spelled) -> Spelled
     ensures { result ≡ spelled (take 32 (text_in a ++ text_in b)) }
 {
-    let first = a.bytes;
-    let second = b.bytes;
-    join_texts(front(&first, a.len), front(&second, b.len))
+    join_texts(front(&a.bytes, a.len), front(&b.bytes, b.len))
 }
 
 // The first bytes of a row, as far as it goes.
 pub fn front(row: &[u8], len: usize) -> &[u8]
     ensures { result.now ≡ take len row.now }
 {
-    if row.len() < len {
-        return row;
-    }
-    &row[..len]
+    row.get(..len).unwrap_or(row)
 }
 
 fn join_texts(a: &[u8], b: &[u8]) -> Spelled
     ensures { result ≡ spelled (take 32 (a.now ++ b.now)) }
 {
-    let first = spell(a);
-    let mut bytes = first.bytes;
-    let mut n = first.len;
-    let mut i: usize = 0;
-    while n < 32 {
-        if b.len() <= i {
-            return Spelled { bytes, len: n };
-        }
-        bytes[n] = b[i];
-        n += 1;
-        i += 1;
+    let Spelled { mut bytes, len } = spell(a);
+    let more = b.len().min(32 - len);
+    bytes[len..len + more].copy_from_slice(&b[..more]);
+    Spelled {
+        bytes,
+        len: len + more,
     }
-    Spelled { bytes, len: n }
 }
 
-// Puts a text at the start of `out`, and leaves what stands behind it.
-pub fn put_text(s: &[u8], out: &mut [u8]) -> Placed
+// Puts a text at the start of `out`, and leaves what stands behind it; answers how many bytes. Where it has no room, nothing changes.
+pub fn put_text(s: &[u8], out: &mut [u8]) -> Option<usize>
     ensures { (result ≡ put_answer s.now out.old) × (out.new ≡ put_bytes s.now out.old) }
 {
     if out.len() < s.len() {
-        return Placed::NoRoom;
+        return None;
     }
-    let mut i = 0;
-    while i < s.len() {
-        out[i] = s[i];
-        i += 1;
-    }
-    Placed::Count(i)
+    out[..s.len()].copy_from_slice(s);
+    Some(s.len())
 }
 
 // 1 for a byte of printable ASCII, 0 for another.
@@ -221,5 +153,5 @@ pub fn wide(b: u8) -> u64
 pub fn least(a: usize, b: usize) -> usize
     ensures { result ≡ min a b }
 {
-    if a < b { a } else { b }
+    a.min(b)
 }

@@ -33,35 +33,30 @@ pub enum TimescaleUnit {
     FS,
 }
 
-#[derive(Clone, Copy)]
-pub enum ParsedUnit {
-    Is(TimescaleUnit),
-    Invalid,
-}
-
 impl TimescaleUnit {
-    pub fn from_str(s: &[u8]) -> ParsedUnit
+    #[tactic(auto, using(text::proofs::Names::hit, text::proofs::Names::miss, text::proofs::Names::ended), unfolding(crate::specs::Units::parse_unit))]
+    pub fn from_str(s: &[u8]) -> Option<TimescaleUnit>
         ensures { result ≡ parse_unit s.now }
     {
         if text::equals(s, &SECOND) {
-            return ParsedUnit::Is(TimescaleUnit::S);
+            return Some(TimescaleUnit::S);
         }
         if text::equals(s, &MILLI) {
-            return ParsedUnit::Is(TimescaleUnit::MS);
+            return Some(TimescaleUnit::MS);
         }
         if text::equals(s, &MICRO) {
-            return ParsedUnit::Is(TimescaleUnit::US);
+            return Some(TimescaleUnit::US);
         }
         if text::equals(s, &NANO) {
-            return ParsedUnit::Is(TimescaleUnit::NS);
+            return Some(TimescaleUnit::NS);
         }
         if text::equals(s, &PICO) {
-            return ParsedUnit::Is(TimescaleUnit::PS);
+            return Some(TimescaleUnit::PS);
         }
         if text::equals(s, &FEMTO) {
-            return ParsedUnit::Is(TimescaleUnit::FS);
+            return Some(TimescaleUnit::FS);
         }
-        ParsedUnit::Invalid
+        None
     }
 
     pub fn spell(self) -> Spelled
@@ -102,17 +97,11 @@ impl TimescaleUnit {
     pub fn number(self) -> u64
         ensures { result ≡ unit_number self }
     {
-        match self {
-            TimescaleUnit::S => 0,
-            TimescaleUnit::MS => 1,
-            TimescaleUnit::US => 2,
-            TimescaleUnit::NS => 3,
-            TimescaleUnit::PS => 4,
-            TimescaleUnit::FS => 5,
-        }
+        self as u64
     }
 
     // The unit of a number; numbers past the last mean the last.
+    #[tactic(auto, unfolding(crate::specs::Numbers::unit_of))]
     pub fn from_number(n: u64) -> TimescaleUnit
         ensures { result ≡ unit_of n }
     {

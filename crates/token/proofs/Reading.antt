@@ -1,16 +1,16 @@
 -- Laws of reading: cursors that stay valid, blanks, words, texts.
-use Prim.Native.Nat.{ℕ, ◌+◌, ◌≤◌, ◌<◌}
+use Prim.Native.Nat.{ℕ, zero, suc, ◌+◌, ◌-◌, ◌≤◌, ◌<◌}
 use mathlib.Core.Path.{◌≡◌, refl, sym, ap, ◌∙◌}
 use mathlib.Core.Bool.{Bool, true, false}
 use mathlib.Core.List.{List, [], ◌∷◌, ◌++◌}
 use native.Mathlib.Omega.{arith}
 use native.Mathlib.Nat.{add-zero}
 use lib.Dec.{eqb}
-use lib.ListN.{length, drop, get_or, length-drop, drop_of_length-le}
+use lib.ListN.{length, take, drop, get_or, length-drop, drop_of_length-le}
 use lib.Seq.{drop-drop, drop-append_seam, take-append_seam, get_or-drop}
 use Rattle.text.specs.Bytes.{is_blank, starts, holds, has, up_to, all_blank, no_blank}
 use Rattle.text.specs.Texts.{part}
-use Rattle.text.proofs.Lists.{by-test, both, neither, drop-step}
+use Rattle.text.proofs.Lists.{by-test, both, neither, drop-step, take_rest}
 use Rattle.text.proofs.Equal.{starts-self, starts-cut}
 use Rattle.token.specs.Read.{bit, Valid, byte_read, end_read, after, rest, gap, word, skipped}
 use Rattle.token.specs.declared.Cursor.{Cursor}
@@ -49,6 +49,17 @@ unfolding after
 valid-after s [] c v h = v
 valid-after s (x ∷ l) c v h =
     valid-after s l (byte_read c x) (valid-step s c x v (omega arith)) (omega (arith, place-step c x))
+
+pub after_none : (c : Cursor) → c ≡ after [] c
+unfolding after
+after_none c = refl
+
+-- one byte more of those that are read
+pub after_next : (l : List ℕ) (k : ℕ) (c : Cursor) → k < length l → byte_read (after (take k l) c) (get_or l k 0) ≡ after (take (k + 1) l) c
+unfolding after
+after_next [] k c h = absurd (omega arith)
+after_next (x ∷ l) zero c h = refl
+after_next (x ∷ l) (suc k) c h = let e : suc k + 1 ≡ suc (k + 1) = omega arith in rw e (after_next l k (byte_read c x) (omega arith))
 
 valid-end : (s : List ℕ) (c : Cursor) → Valid s c → Valid s (end_read c)
 unfolding end_read
@@ -116,6 +127,29 @@ module _ (s : List ℕ) (c : Cursor) where
   pub skip-end : length s ≤ c.place → skipped s c ≡ c
   unfolding skipped gap after
   skip-end h = rw (drop_of_length-le s h)
+
+-- the bytes from a cursor on one by one, where d is after k of them
+module _ (s : List ℕ) (c d : Cursor) (k : ℕ) (v : Valid s d) (p : d.place ≡ c.place + k) where
+  abbrev items : List ℕ
+  items = take (length s - c.place) (drop c.place s)
+
+  item_at : k < length items → (d.place < length s) × (get_or items k 0 ≡ get_or s d.place 0)
+  item_at h =
+      let l : length items ≡ length s - c.place = rw (take_rest s c.place) (length-drop c.place s) in
+      (omega arith, rw (p, take_rest s c.place) (get_or-drop c.place s k 0))
+
+  pub blank-item : k < length items → is_blank (get_or items k 0) ≡ true
+      → Valid s (byte_read d (get_or items k 0)) × ((byte_read d (get_or items k 0)).place ≡ c.place + (k + 1))
+      × (skipped s (byte_read d (get_or items k 0)) ≡ skipped s d)
+  blank-item h e =
+      let x = item_at h in
+      rw x.1 (valid-step s d _ v x.0, omega (arith, place-step d (get_or s d.place 0)), skip_step s d x.0 (rw x.1 at e))
+
+  pub solid-item : k < length items → is_blank (get_or items k 0) ≡ false → skipped s d ≡ d
+  solid-item h e = let x = item_at h in skip_stop s d x.0 (rw x.1 at e)
+
+  pub no-item : length items ≤ k → skipped s d ≡ d
+  no-item h = skip-end s d (omega (arith, rw (take_rest s c.place) at h, length-drop c.place s))
 
 -- the byte after the blanks is none
 gap-out : (r : List ℕ) → length (gap r) < length r → is_blank (get_or r (length (gap r)) 0) ≡ false

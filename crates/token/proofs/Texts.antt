@@ -1,40 +1,38 @@
 -- Laws of texts: reading over some bytes, and up to the first mark.
-use Prim.Native.Nat.{ℕ, suc, ◌+◌, ◌-◌, ◌≤◌, ◌<◌}
+use Rattle.std.specs.Prelude.{Some, None, Ok, Err}
+use Prim.Native.Nat.{ℕ, ◌+◌, ◌-◌, ◌≤◌, ◌<◌}
 use mathlib.Core.Path.{◌≡◌, refl, sym, ap, ◌∙◌}
 use mathlib.Core.Bool.{true, false}
 use mathlib.Core.List.{List, [], ◌∷◌}
 use native.Mathlib.Omega.{arith}
-use lib.ListN.{length, take, drop, get_or, length-drop}
-use lib.Seq.{take-add}
+use lib.ListN.{length, take, drop, length-take, length-drop}
+use lib.Seq.{take-add, length-take-le}
 use Rattle.text.specs.Bytes.{starts, holds, up_to}
+use Rattle.text.specs.Texts.{limit}
 use Rattle.command.specs.Words.{end_mark}
 use Rattle.command.specs.Words.{first_end}
-use Rattle.text.specs.declared.Found.{Found}
-use Rattle.text.proofs.Lists.{by-test, neither, drop-step, take_rest}
+use Rattle.text.proofs.Lists.{by-test, neither, take_rest}
 use Rattle.text.proofs.Equal.{starts-equal, starts-long, equal-true}
 use Rattle.command.specs.declared.Refusal.TheVariants.{UnexpectedEof}
-use Rattle.token.specs.Read.{Valid, byte_read, end_read, after, rest, text_to, text_from}
+use Rattle.token.specs.Read.{Valid, end_read, after, rest, text_to, text_from}
 use Rattle.token.specs.declared.Cursor.{Cursor}
-use Rattle.token.specs.declared.Token.TheVariants.{Word, Refused}
-use Rattle.token.proofs.Reading.{after-append, up_to-le}
+use Rattle.token.proofs.Reading.{place_after, after-append, valid-after, up_to-le}
 use Rattle.token.proofs.Tokens.{from_front}
 
--- ---- reading up to a place: one byte more, and there
+-- ---- reading up to a place
 abbrev pub read_to : List ℕ → Cursor → ℕ → Cursor
 read_to s c end = after (take (end - c.place) (rest s c)) c
 
-pub over-step : (s : List ℕ) (c : Cursor) (end : ℕ) → c.place < end → c.place < length s
-    → read_to s (byte_read c (get_or s c.place 0)) end ≡ read_to s c end
-unfolding after byte_read
-over-step s c end h k =
-    let more : end - c.place ≡ suc (end - (c.place + 1)) = omega arith in
-    rw (drop-step s c.place k, more)
-
-pub over-end : (s : List ℕ) (c : Cursor) (end : ℕ) → end ≤ c.place → read_to s c end ≡ c
-unfolding after
-over-end s c end h =
-    let none : end - c.place ≡ 0 = omega arith in
-    rw none
+-- before the next of these bytes
+pub over-next : (s : List ℕ) (c d : Cursor) (end k : ℕ) → Valid s c → d ≡ after (take k (take (end - c.place) (rest s c))) c
+    → k < length (take (end - c.place) (rest s c)) → (d.place < limit) × (d.line ≤ limit + 1)
+over-next s c d end k v e h =
+    let l : List ℕ = take (end - c.place) (rest s c) in
+    let n : length (take k l) ≡ k = length-take-le k l (omega arith) in
+    let room = length-take (end - c.place) (rest s c) in
+    let left = length-drop c.place s in
+    let x = valid-after s (take k l) c v (omega (arith, v.within)) in
+    rw e (omega (arith, x, place_after (take k l) c, v.within), omega (arith, x))
 
 pub over-valid : (s : List ℕ) (c : Cursor) (end : ℕ) → Valid s c → Valid s (read_to s c end)
 over-valid s c end v = (from_front s (rest s c) c (end - c.place) v (omega arith)).valid
@@ -64,8 +62,8 @@ starts-front m r e = equal-true (take (length m) r) m (sym (starts-equal m r) �
 -- ---- what `find_end` answers
 module _ (s : List ℕ) (c : Cursor) (v : Valid s c) where
   -- with a mark it is read too, and there is room for it
-  pub text-found : (len : ℕ) → Found.At len ≡ first_end (rest s c)
-      → (c.place + len + 4 ≤ length s) × (Word (record { start = c.place; len = len }) (read_to s c (c.place + len + 4)) ≡ text_from s c)
+  pub text-found : (len : ℕ) → Some len ≡ first_end (rest s c)
+      → (c.place + len + 4 ≤ length s) × (Ok (record { start = c.place; len = len }, read_to s c (c.place + len + 4)) ≡ text_from s c)
   unfolding first_end text_from text_to
   text-found len e =
       by-test (holds end_mark (rest s c))
@@ -83,7 +81,7 @@ module _ (s : List ℕ) (c : Cursor) (v : Valid s c) where
       (λ h. absurd (let f = rw h at e in let z : ◌≡◌ {A = ℕ} 0 1 = cc in omega arith))
 
   -- with none all is read
-  pub text-lost : Found.Nothing ≡ first_end (rest s c) → Refused UnexpectedEof (end_read (read_to s c (length s))) ≡ text_from s c
+  pub text-lost : None ≡ first_end (rest s c) → Err (UnexpectedEof, end_read (read_to s c (length s))) ≡ text_from s c
   unfolding first_end text_from text_to
   text-lost e =
       by-test (holds end_mark (rest s c))

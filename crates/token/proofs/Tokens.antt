@@ -1,4 +1,7 @@
 -- Laws of tokens and texts: the cases, and that cursors and texts stay within the input.
+use Rattle.token.specs.Read.{Reading}
+use Rattle.std.specs.Prelude.{Ok, Err}
+use Rattle.text.specs.declared.Text.{Text}
 use Prim.Native.Nat.{ℕ, ◌+◌, ◌-◌, ◌≤◌, ◌<◌}
 use mathlib.Core.Path.{◌≡◌}
 use mathlib.Core.List.{List}
@@ -15,20 +18,18 @@ use Rattle.text.proofs.Lists.{by-test}
 use Rattle.text.proofs.Equal.{starts-long}
 use Rattle.token.specs.Read.{Bound, most, unlimited, passed, beyond, Valid, end_read, after, rest, gap, word, skipped, word_token, word_here, token, text_to, text_from}
 use Rattle.token.specs.declared.Cursor.{Cursor}
-use Rattle.token.specs.declared.Token.{Token}
-use Rattle.token.specs.declared.Token.TheVariants.{Word, Refused}
 use Rattle.token.proofs.Reading.{place_after, From, from-after, from_end, from-trans, gap-le, word-le, up_to-le}
 
 -- ---- the cases
-pub token-long : (w r : List ℕ) (c : Cursor) (n : Bound) → passed n w < length w → word_token w r c n ≡ Refused (beyond n) (after (take (passed n w + 1) w) c)
+pub token-long : (w r : List ℕ) (c : Cursor) (n : Bound) → passed n w < length w → word_token w r c n ≡ Err (beyond n, after (take (passed n w + 1) w) c)
 unfolding word_token
 token-long w r c n h = rw (lt-ltb (passed n w) (length w) h)
 
-pub token-eof : (w r : List ℕ) (c : Cursor) (n : Bound) → length w ≤ passed n w → length w ≡ length r → word_token w r c n ≡ Refused UnexpectedEof (end_read (after w c))
+pub token-eof : (w r : List ℕ) (c : Cursor) (n : Bound) → length w ≤ passed n w → length w ≡ length r → word_token w r c n ≡ Err (UnexpectedEof, end_read (after w c))
 unfolding word_token
 token-eof w r c n h e = rw (le-ltb (passed n w) (length w) h, eq-eqb (length w) (length r) e)
 
-pub token-text : (w r : List ℕ) (c : Cursor) (n : Bound) → length w ≤ passed n w → length w < length r → word_token w r c n ≡ Word (record { start = c.place; len = length w }) (after (take (length w + 1) r) c)
+pub token-text : (w r : List ℕ) (c : Cursor) (n : Bound) → length w ≤ passed n w → length w < length r → word_token w r c n ≡ Ok (record { start = c.place; len = length w }, after (take (length w + 1) r) c)
 unfolding word_token
 token-text w r c n h e = rw (le-ltb (passed n w) (length w) h, ne_eqb (length w) (length r) (λ q. omega arith))
 
@@ -41,9 +42,9 @@ word_same w r c n m h k = rw (le-ltb (passed n w) (length w) h, le-ltb (passed m
 pub record Within (s : List ℕ) (t : Piece) : Type 0 where
   pub inside : t.start + t.len ≤ length s
 
-abbrev pub Kept : List ℕ → Cursor → Token → Type 0
-Kept s c (Word t d) = From s c d × Within s t
-Kept s c (Refused e d) = From s c d
+abbrev pub Kept : List ℕ → Cursor → Reading Text → Type 0
+Kept s c (Ok (t, d)) = From s c d × Within s t
+Kept s c (Err (e, d)) = From s c d
 
 pub skipped-from : (s : List ℕ) (c : Cursor) → Valid s c → From s c (skipped s c)
 unfolding skipped
@@ -74,9 +75,9 @@ here-kept s c n v =
     (from_front s r c (length w + 1) v (omega arith), record { inside = omega (arith, v.within) })))
 
 -- what is kept from d is kept from any cursor before d
-kept_trans : (s : List ℕ) (c d : Cursor) (k : Token) → From s c d → Kept s d k → Kept s c k
-kept_trans s c d (Word t e) f g = (from-trans s c d e f g.0, g.1)
-kept_trans s c d (Refused x e) f g = from-trans s c d e f g
+kept_trans : (s : List ℕ) (c d : Cursor) (k : Reading Text) → From s c d → Kept s d k → Kept s c k
+kept_trans s c d (Ok (t, e)) f g = (from-trans s c d e f g.0, g.1)
+kept_trans s c d (Err (x, e)) f g = from-trans s c d e f g
 
 pub token-kept : (s : List ℕ) (c : Cursor) (n : Bound) → Valid s c → Kept s c (token s c n)
 unfolding token

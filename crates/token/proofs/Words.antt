@@ -1,11 +1,13 @@
 -- Laws of words, which have no newline: where one ends, the cursor after it, and the three ways in which it ends.
 use Prim.Native.Nat.{ℕ, zero, suc, ◌+◌, ◌-◌, ◌/◌, ◌≤◌, ◌<◌, min}
 use mathlib.Core.Path.{◌≡◌, refl, sym, ap, ◌∙◌}
-use mathlib.Core.Bool.{true, false, true≢false}
+use mathlib.Core.Bool.{true, false, cond, true≢false}
 use mathlib.Core.List.{List, [], ◌∷◌}
 use native.Mathlib.Nat.{add-zero}
 use native.Mathlib.Omega.{arith}
 use borrow.Author.Tests.{ltb-true, ltb-false, eqb-true, eqb-false}
+use Rattle.std.proofs.Common.{Option, Some, None, Ok, Err}
+use Rattle.std.specs.List.{position_or_len}
 use lib.Dec.{eqb, ltb}
 use lib.ListN.{length, take, drop, get_or, length-take, length-drop, drop_of_length-le}
 use lib.Seq.{get_or-drop}
@@ -17,7 +19,6 @@ use Rattle.command.specs.declared.Refusal.TheVariants.{UnexpectedEof}
 use Rattle.token.specs.Read.{Bound, values, passed, beyond, Valid, byte_read, end_read, after, rest, word, values_in, word_here, token}
 use Rattle.token.specs.Flat.{word_read, word_end_read, first_passed}
 use Rattle.token.specs.declared.Cursor.{Cursor}
-use Rattle.token.specs.declared.Token.TheVariants.{Word, Refused}
 use Rattle.token.proofs.Reading.{word-le, skip_stop}
 use Rattle.token.proofs.Tokens.{token-long, token-eof, token-text}
 
@@ -54,6 +55,41 @@ word-front [] (suc n) h = refl
 word-front (b ∷ r) (suc n) h =
     by-test (is_blank b) (λ e. absurd (let k = rw e at h in omega arith))
     (λ e. rw e (ap (λ (l : List ℕ). b ∷ l) (word-front r n (let k = rw e at h in omega arith))))
+
+-- ---- where a word ends, or its first bytes: r is what `position` answered of the blanks in the n bytes from `at` on
+first_blank : (l : List ℕ) (n : ℕ) → n ≤ length l → position_or_len is_blank (take n l) ≡ length (take n (word l))
+unfolding word
+first_blank l zero h = refl
+first_blank [] (suc n) h = refl
+first_blank (b ∷ l) (suc n) h =
+    by-test (is_blank b) (λ e. rw e) (λ e. rw e (omega (arith, first_blank l n (omega arith))))
+
+abbrev pub Blank : List ℕ → ℕ → ℕ → Option ℕ → Type 0
+Blank s at n r =
+    let l : List ℕ = take n (drop at s) in
+    r ≡ cond (ltb (position_or_len is_blank l) (length l)) (Some (position_or_len is_blank l)) None
+
+module _ (s : List ℕ) (at limit stop : ℕ) (h : at ≤ length s) (e : stop ≡ min (length s) (at + limit)) (r : Option ℕ) (q : Blank s at (stop - at) r) where
+  blank_size : length (take (stop - at) (drop at s)) ≡ stop - at
+  blank_size = simp (length-take, length-drop) (omega arith)
+
+  blank_place : position_or_len is_blank (take (stop - at) (drop at s)) ≡ min (stop - at) (length (word (drop at s)))
+  blank_place = first_blank (drop at s) (stop - at) (simp length-drop (omega arith)) ∙ length-take (stop - at) (word (drop at s))
+
+  pub blank-at : (n : ℕ) → r ≡ Some n → (n < stop - at) × (at + n ≡ at + length (take limit (word (drop at s))))
+  blank-at n p =
+      by-test (ltb (min (stop - at) (length (word (drop at s)))) (stop - at))
+      (λ t.
+      let k : Some n ≡ Some (min (stop - at) (length (word (drop at s)))) = sym p ∙ rw (blank_place, blank_size, t) at q in
+      let same : n ≡ min (stop - at) (length (word (drop at s))) = cc in
+      (omega (arith, ltb-true _ _ t), rw length-take (omega (arith, ltb-true _ _ t))))
+      (λ t. absurd (let k : Some n ≡ None = sym p ∙ rw (blank_place, blank_size, t) at q in cc))
+
+  pub no-blank : r ≡ None → stop ≡ at + length (take limit (word (drop at s)))
+  no-blank p =
+      by-test (ltb (min (stop - at) (length (word (drop at s)))) (stop - at))
+      (λ t. absurd (let k : None ≡ Some (min (stop - at) (length (word (drop at s)))) = sym p ∙ rw (blank_place, blank_size, t) at q in cc))
+      (λ t. rw length-take (omega (arith, ltb-false _ _ t, word-le (drop at s), length-drop at s)))
 
 -- ---- a byte that is no blank is no newline: the cursor moves once
 solid : (b : ℕ) → is_blank b ≡ false → eqb b 10 ≡ false
@@ -127,7 +163,7 @@ module _ (s : List ℕ) (c : Cursor) (n : Bound) (end : ℕ) (v : Valid s c)
       let k : length w ≤ passed n w = ltb-false _ _ q in
       absurd (true≢false (sym (word_out r (omega (arith, ends, room))) ∙ ap is_blank (sym (byte_at _ (omega (arith, ends)))) ∙ e)))
 
-  pub here-eof : length s ≤ end → Refused UnexpectedEof (word_end_read c end) ≡ word_here s c n
+  pub here-eof : length s ≤ end → Err (UnexpectedEof, word_end_read c end) ≡ word_here s c n
   unfolding word_here
   here-eof h =
       let all : length w ≡ length r = omega (arith, ends, room, word-le r) in
@@ -135,7 +171,7 @@ module _ (s : List ℕ) (c : Cursor) (n : Bound) (end : ℕ) (v : Valid s c)
       rw (token-eof w r c n (omega (arith, ends, room)) all, behind-end r c, there)
 
   pub here-text : end < length s → is_blank (get_or s end 0) ≡ true
-      → Word (record { start = c.place; len = end - c.place }) (word_read c end (get_or s end 0)) ≡ word_here s c n
+      → Ok (record { start = c.place; len = end - c.place }, word_read c end (get_or s end 0)) ≡ word_here s c n
   unfolding word_here
   here-text h e =
       let k = whole e in
@@ -145,7 +181,7 @@ module _ (s : List ℕ) (c : Cursor) (n : Bound) (end : ℕ) (v : Valid s c)
       rw (len, byte_at _ there, there, token-text w r c n k more, behind r (length w) c (omega arith) more)
 
   pub here-long : end < length s → is_blank (get_or s end 0) ≡ false
-      → Refused (beyond n) (word_read c end (get_or s end 0)) ≡ word_here s c n
+      → Err (beyond n, word_read c end (get_or s end 0)) ≡ word_here s c n
   unfolding word_here
   here-long h e =
       let k = cut h e in
@@ -210,7 +246,7 @@ module _ (s : List ℕ) (c : Cursor) (end : ℕ) (v : Valid s c) (long : end ≡
       (λ e. absurd (omega (arith, values-stop s c.place k e)))
 
   pub values-here : c.place < end → end < length s → is_blank (get_or s end 0) ≡ true
-      → Word (record { start = c.place; len = end - c.place }) (word_read c end (get_or s end 0)) ≡ token s c values
+      → Ok (record { start = c.place; len = end - c.place }, word_read c end (get_or s end 0)) ≡ token s c values
   unfolding token
   values-here h k e =
       let passes : end ≡ c.place + length (first_passed values (rest s c)) = omega (arith, values-in (rest s c)) in

@@ -1,12 +1,16 @@
 -- Reading: the cursor after bytes are read, and what a token and a text are.
-use Rattle.std.specs.Prelude.{ℕ, suc, ◌+◌, ◌≤◌, Bool, true, false, cond, List, [], ◌∷◌, eqb, ltb, length, take, drop}
+use Rattle.text.specs.declared.Text.{Text}
+use Rattle.std.specs.Prelude.{ℕ, suc, ◌+◌, ◌≤◌, Bool, true, false, cond, List, [], ◌∷◌, eqb, ltb, length, take, drop, Result, Ok, Err}
 use Rattle.text.specs.Bytes.{is_blank, starts, up_to}
 use Rattle.command.specs.Words.{end_mark}
 use Rattle.value.specs.Values.{is_value}
 use Rattle.command.specs.declared.Refusal.{Refusal}
 use Rattle.token.specs.declared.Cursor.{Cursor}
-use Rattle.token.specs.declared.Token.{Token}
 use Rattle.text.specs.Texts.{limit}
+
+-- what was read and the cursor after it; or why not, and the cursor just after the last byte read
+abbrev pub Reading : Type 0 → Type 0
+Reading A = Result (A × Cursor) (Refusal × Cursor)
 
 abbrev pub bit : Bool → ℕ
 bit true = 1
@@ -77,24 +81,24 @@ beyond unlimited = Refusal.TokenTooLong
 
 -- the word w that starts here, where r is left to read. It is refused at the first byte that does not pass;
 -- a word that the input's end ends is refused; else the blank after it is read too.
-unfoldable pub word_token : List ℕ → List ℕ → Cursor → Bound → Token
+unfoldable pub word_token : List ℕ → List ℕ → Cursor → Bound → Reading Text
 word_token w r c n =
-    cond (ltb (passed n w) (length w)) (Token.Refused (beyond n) (after (take (passed n w + 1) w) c))
-    (cond (eqb (length w) (length r)) (Token.Refused Refusal.UnexpectedEof (end_read (after w c)))
-    (Token.Word (record { start = c.place; len = length w }) (after (take (length w + 1) r) c)))
+    cond (ltb (passed n w) (length w)) (Err (beyond n, after (take (passed n w + 1) w) c))
+    (cond (eqb (length w) (length r)) (Err (Refusal.UnexpectedEof, end_read (after w c)))
+    (Ok (record { start = c.place; len = length w }, after (take (length w + 1) r) c)))
 
-unfoldable pub word_here : List ℕ → Cursor → Bound → Token
+unfoldable pub word_here : List ℕ → Cursor → Bound → Reading Text
 word_here s c n = word_token (word (rest s c)) (rest s c) c n
 
 -- a token: the blanks before it are skipped
-unfoldable pub token : List ℕ → Cursor → Bound → Token
+unfoldable pub token : List ℕ → Cursor → Bound → Reading Text
 token s c n = word_here s (skipped s c) n
 
 -- a text l up to the first `$end`, where r is left to read after it; the mark is read too
-unfoldable pub text_to : List ℕ → List ℕ → Cursor → Token
+unfoldable pub text_to : List ℕ → List ℕ → Cursor → Reading Text
 text_to l r c =
-    cond (starts end_mark r) (Token.Word (record { start = c.place; len = length l }) (after end_mark (after l c)))
-    (Token.Refused Refusal.UnexpectedEof (end_read (after l c)))
+    cond (starts end_mark r) (Ok (record { start = c.place; len = length l }, after end_mark (after l c)))
+    (Err (Refusal.UnexpectedEof, end_read (after l c)))
 
-unfoldable pub text_from : List ℕ → Cursor → Token
+unfoldable pub text_from : List ℕ → Cursor → Reading Text
 text_from s c = let l = up_to end_mark (rest s c) in text_to l (drop (length l) (rest s c)) c

@@ -7,8 +7,8 @@ ghost use Rattle.token.specs.Read.{Valid, next_line, byte_read, end_read, after,
 ghost use Rattle.token.specs.Flat.{word_read, word_end_read, first_passed};
 ghost use Rattle.text.specs.Texts.{limit};
 
-use command::{Open, Refusal};
-use text::{Found, Text};
+use command::{Refusal, SimulationCommand};
+use text::Text;
 
 // Where reading stands: the next byte's place, the line of the last byte read, whether that byte was a newline, and the simulation
 // command that is open.
@@ -17,14 +17,11 @@ pub struct Cursor {
     pub place: usize,
     pub line: u64,
     pub pending: bool,
-    pub sim: Open,
+    pub sim: Option<SimulationCommand>,
 }
 
-#[derive(Clone, Copy)]
-pub enum Token {
-    Word(Text, Cursor),
-    Refused(Refusal, Cursor),
-}
+// What was read and the cursor after it; or why not, and the cursor just after the last byte read.
+pub type Reading<T> = Result<(T, Cursor), (Refusal, Cursor)>;
 
 // The line that the next read is on.
 fn next_line(c: Cursor) -> u64
@@ -35,6 +32,7 @@ fn next_line(c: Cursor) -> u64
 }
 
 // The cursor after a word, which has no newline, up to `end`, and the byte b that stands there.
+#[tactic(auto, unfolding(crate::specs::Flat::word_read))]
 pub fn word_read(c: Cursor, end: usize, b: u8) -> Cursor
     requires end_lt_limit { end < limit }
     requires line_bound { c.line ≤ limit + 1 }
@@ -51,6 +49,7 @@ pub fn word_read(c: Cursor, end: usize, b: u8) -> Cursor
 }
 
 // The cursor after such a word and the read that found the end after it.
+#[tactic(auto, unfolding(crate::specs::Flat::word_end_read))]
 pub fn word_end_read(c: Cursor, end: usize) -> Cursor
     requires { c.line ≤ limit + 1 }
     ensures { result ≡ word_end_read c end }
@@ -66,6 +65,7 @@ pub fn word_end_read(c: Cursor, end: usize) -> Cursor
 }
 
 // The cursor after the byte b was read.
+#[tactic(auto, unfolding(crate::specs::Read::byte_read, crate::specs::Flat::word_read))]
 pub fn byte_read(c: Cursor, b: u8) -> Cursor
     requires place_lt_limit { c.place < limit }
     requires line_bound { c.line ≤ limit + 1 }
@@ -75,6 +75,7 @@ pub fn byte_read(c: Cursor, b: u8) -> Cursor
 }
 
 // The cursor after the read that found the end.
+#[tactic(auto, unfolding(crate::specs::Read::end_read, crate::specs::Flat::word_end_read))]
 pub fn end_read(c: Cursor) -> Cursor
     requires { c.line ≤ limit + 1 }
     ensures { result ≡ end_read c }
@@ -88,18 +89,13 @@ pub fn skip(input: &[u8], c: Cursor) -> Cursor
     ensures { result ≡ skipped input.now c }
 {
     let mut cur = c;
-    loop {
-        let at = cur.place;
-        if input.len() <= at {
+    for &b in &input[c.place..] {
+        if !text::whitespace_byte(b) {
             return cur;
         }
-        let b = input[at];
-        if text::whitespace_byte(b) {
-            cur = byte_read(cur, b);
-        } else {
-            return cur;
-        }
+        cur = byte_read(cur, b);
     }
+    cur
 }
 
 // The end of the input or of `limit` bytes from `at`, whichever comes first. No sum is made that could wrap.
@@ -118,20 +114,19 @@ fn word_end(input: &[u8], at: usize, limit: usize) -> usize
     requires { at ≤ length input.now }
     ensures { result ≡ at + length (take limit (word (drop at input.now))) }
 {
-    // One test a byte serves both ends.
     let stop = stop_at(input.len(), at, limit);
-    let mut i = at;
-    while i != stop {
-        if text::whitespace_byte(input[i]) {
-            return i;
-        }
-        i += 1;
+    match input[at..stop]
+        .iter()
+        .position(|&b| text::whitespace_byte(b))
+    {
+        Some(n) => at + n,
+        None => stop,
     }
-    stop
 }
 
 // The next token, of at most `limit` bytes, with the blank that ends it.
-pub fn read_token(input: &[u8], c: Cursor, limit: usize) -> Token
+#[tactic(auto, unfolding(crate::specs::Flat::first_passed, crate::specs::Read::token))]
+pub fn read_token(input: &[u8], c: Cursor, limit: usize) -> Reading<Text>
     requires { Valid input.now c }
     ensures { result ≡ token input.now c (most limit) }
 {
@@ -142,27 +137,27 @@ pub fn read_token(input: &[u8], c: Cursor, limit: usize) -> Token
 }
 
 // The word that starts at the cursor and ends, or is refused, at `end`.
-fn token_to(input: &[u8], c: Cursor, end: usize, reason: Refusal) -> Token
+fn token_to(input: &[u8], c: Cursor, end: usize, reason: Refusal) -> Reading<Text>
     requires valid { Valid input.now c }
     requires place_le_end { (c.place ≤ end) × (end ≤ length input.now) }
     ensures { (n : Bound) → beyond n ≡ reason → end ≡ c.place + length (first_passed n (rest input.now c)) → result ≡ word_here input.now c n }
 {
     let start = c.place;
     if input.len() <= end {
-        return Token::Refused(Refusal::UnexpectedEof, word_end_read(c, end));
+        return Err((Refusal::UnexpectedEof, word_end_read(c, end)));
     }
     let b = input[end];
     let next = word_read(c, end, b);
     if text::whitespace_byte(b) {
-        Token::Word(
+        Ok((
             Text {
                 start,
                 len: end - start,
             },
             next,
-        )
+        ))
     } else {
-        Token::Refused(reason, next)
+        Err((reason, next))
     }
 }
 
@@ -209,7 +204,7 @@ fn pairs_end(input: &[u8], at: usize) -> usize
 }
 
 // The values of a vector, each judged as it is read, with the blank that ends them.
-pub fn read_values(input: &[u8], c: Cursor) -> Token
+pub fn read_values(input: &[u8], c: Cursor) -> Reading<Text>
     requires { Valid input.now c }
     ensures { result ≡ token input.now c values }
 {
@@ -226,29 +221,28 @@ fn read_over(input: &[u8], c: Cursor, end: usize) -> Cursor
     ensures { result ≡ after (take (end - c.place) (rest input.now c)) c }
 {
     let mut cur = c;
-    while cur.place < end {
-        let at = cur.place;
-        cur = byte_read(cur, input[at]);
+    for &b in &input[c.place..end] {
+        cur = byte_read(cur, b);
     }
     cur
 }
 
 // A text up to the first `$end`, which is read too.
-pub fn read_text(input: &[u8], c: Cursor) -> Token
+pub fn read_text(input: &[u8], c: Cursor) -> Reading<Text>
     requires { Valid input.now c }
     ensures { result ≡ text_from input.now c }
 {
     let start = c.place;
     let found = command::find_end(&input[start..]);
     match found {
-        Found::At(len) => {
+        Some(len) => {
             let end = start + len;
             let next = read_over(input, c, end + 4);
-            Token::Word(Text { start, len }, next)
+            Ok((Text { start, len }, next))
         }
-        Found::Nothing => {
+        None => {
             let end = read_over(input, c, input.len());
-            Token::Refused(Refusal::UnexpectedEof, end_read(end))
+            Err((Refusal::UnexpectedEof, end_read(end)))
         }
     }
 }

@@ -1,5 +1,7 @@
 -- The chain of parents in a table as the stack of open scopes, and what is good of a row there.
-use Prim.Native.Nat.{ℕ, zero, suc, ◌+◌, ◌-◌, ◌≤◌, ◌<◌}
+use Rattle.std.specs.Prelude.{Option, Some, None}
+use Rattle.rows.specs.declared.RowNumber.{RowNumber}
+use Prim.Native.Nat.{ℕ, zero, suc, ◌+◌, ◌≤◌, ◌<◌}
 use mathlib.Core.Path.{◌≡◌, refl, sym, ap, ◌∙◌}
 use mathlib.Core.Bool.{Bool, true, false, cond, and-false}
 use mathlib.Core.List.{List, [], ◌∷◌}
@@ -10,7 +12,6 @@ use lib.Dec.{eqb}
 use lib.ListN.{length}
 use Rattle.rows.specs.Good.{is_parent, open_to, is_good_from, is_good_table}
 use Rattle.rows.specs.Rows.{top, parent_of, row_at, rows_of}
-use Rattle.rows.specs.declared.Parent.{Parent}
 use Rattle.rows.specs.declared.Row.{Row}
 use Rattle.text.proofs.Lists.{by-test}
 use Rattle.rows.specs.Peek.{kind_of}
@@ -38,23 +39,19 @@ among : (p : ℕ) (st : List ℕ) → is_parent (parent_of p) st ≡ eqb (innerm
 unfolding parent_of is_parent open_to
 among p st = by-test (eqb p top) (λ e. rw (e, eqb-true p top e)) (λ e. rw e (go e st))
   where
-    step : (b : Bool) (n : ℕ) (st : List ℕ) → eqb p n ≡ b → is_parent (Parent.Of (record { 0 = p })) st ≡ eqb (innermost (open_to (Parent.Of (record { 0 = p })) st)) p
-        → cond b true (is_parent (Parent.Of (record { 0 = p })) st) ≡ eqb (innermost (cond b (n ∷ st) (open_to (Parent.Of (record { 0 = p })) st))) p
+    step : (b : Bool) (n : ℕ) (st : List ℕ) → eqb p n ≡ b → is_parent (Some (record { 0 = p })) st ≡ eqb (innermost (open_to (Some (record { 0 = p })) st)) p
+        → cond b true (is_parent (Some (record { 0 = p })) st) ≡ eqb (innermost (cond b (n ∷ st) (open_to (Some (record { 0 = p })) st))) p
     step true n st e ih = sym (eq-eqb n p (sym (eqb-true p n e)))
     step false n st e ih = ih
 
-    go : eqb p top ≡ false → (st : List ℕ) → is_parent (Parent.Of (record { 0 = p })) st ≡ eqb (innermost (open_to (Parent.Of (record { 0 = p })) st)) p
+    go : eqb p top ≡ false → (st : List ℕ) → is_parent (Some (record { 0 = p })) st ≡ eqb (innermost (open_to (Some (record { 0 = p })) st)) p
     go e [] = sym (ne_eqb top p (λ q. eqb-false p top e (sym q)))
     go e (n ∷ st) = step (eqb p n) n st refl (go e st)
 
 -- ---- unwinding: the scope p is found, or none is left, or the innermost is another and is closed
-under_next : (table : List ℕ) (cur d : ℕ) → 0 < d → Under table cur d → Under table (parent_at table cur) (d - 1)
+pub next_under : {q : ℕ} (table : List ℕ) (cur d e : ℕ) → q ≡ parent_at table cur → d ≡ suc e → Under table cur d → Under table q e
 unfolding Under
-under_next table cur zero h u = absurd (omega arith)
-under_next table cur (suc d) h u = let e : suc d - 1 ≡ d = omega arith in rw e u.1
-
-pub next_under : {q : ℕ} (table : List ℕ) (cur d : ℕ) → q ≡ parent_at table cur → 0 < d → Under table cur d → Under table q (d - 1)
-next_under table cur d e h u = rw e (under_next table cur d h u)
+next_under table cur d e p s u = rw p (rw s at u).1
 
 open-same : (p : ℕ) (st : List ℕ) → p < top → open_to (parent_of p) (p ∷ st) ≡ p ∷ st
 unfolding parent_of open_to
@@ -66,29 +63,27 @@ found table p cur zero h e u = absurd (omega arith)
 found table p cur (suc d) h e u =
     record { left = rw (← e) (sym (open-same cur (chain table (parent_at table cur) d) u.0)); same = refl; under = u; fewer = omega arith }
 
-open_none : (p : Parent) → open_to p [] ≡ []
+open_none : (p : Option RowNumber) → open_to p [] ≡ []
 unfolding open_to
-open_none Parent.Top = refl
-open_none (Parent.Of n) = refl
+open_none None = refl
+open_none (Some n) = refl
 
-pub none_left : (table : List ℕ) (p cur d : ℕ) → d ≤ 0 → Under table cur d → Unwound table p cur d cur d
-unfolding chain
-none_left table p cur zero h u = record { left = sym (open_none (parent_of p)); same = refl; under = u; fewer = omega arith }
-none_left table p cur (suc d) h u = absurd (omega arith)
+pub none_left : (table : List ℕ) (p cur d : ℕ) → d ≡ 0 → Unwound table p cur d cur 0
+unfolding chain Under
+none_left table p cur d h = rw h (record { left = sym (open_none (parent_of p)); same = refl; under = tt; fewer = omega arith })
 
-pub closed : (table : List ℕ) (p cur d q cur' d' : ℕ) → 0 < d → (cur ≡ p → ⊥) → q ≡ parent_at table cur
-    → Unwound table p q (d - 1) cur' d' → Unwound table p cur d cur' d'
+pub closed : (table : List ℕ) (p cur d e q cur' d' : ℕ) → d ≡ suc e → (cur ≡ p → ⊥) → q ≡ parent_at table cur
+    → Unwound table p q e cur' d' → Unwound table p cur d cur' d'
 unfolding chain base
-closed table p cur zero q cur' d' h f e u = absurd (omega arith)
-closed table p cur (suc d) q cur' d' h f e u =
-    let x : suc d - 1 ≡ d = omega arith in
-    let v = rw (x, e) at u in
-    record {
-      left = v.left ∙ sym (open-other (parent_of p) cur (chain table (parent_at table cur) d) (λ y. f (sym (sym (word-of p) ∙ y))));
+closed table p cur d e q cur' d' s f is u =
+    let v = rw is at u in
+    rw s
+    (record {
+      left = v.left ∙ sym (open-other (parent_of p) cur (chain table (parent_at table cur) e) (λ y. f (sym (sym (word-of p) ∙ y))));
       same = v.same;
       under = v.under;
       fewer = omega (arith, v.fewer);
-    }
+    })
 
 -- ---- there is no row
 pub no_row : (table : List ℕ) (i cur d : ℕ) → kind_of (row_at table i) ≡ 0
@@ -105,7 +100,7 @@ module _ (table : List ℕ) (i cur d cur' d' : ℕ) (ends : base table cur d ≡
   parents : is_parent (parent_of (parent_at table i)) (chain table cur d) ≡ eqb cur' (parent_at table i)
   parents = among (parent_at table i) (chain table cur d) ∙ rw (← u.left, inner-chain table cur' d' (u.same ∙ ends))
 
-  module _ {p : Parent} (e : parent_of (parent_at table i) ≡ p) where
+  module _ {p : Option RowNumber} (e : parent_of (parent_at table i) ≡ p) where
     parent-no : (cur' ≡ parent_at table i → ⊥) → is_parent p (chain table cur d) ≡ false
     parent-no f = rw (← e) (parents ∙ ne_eqb cur' (parent_at table i) f)
 

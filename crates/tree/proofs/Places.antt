@@ -1,7 +1,7 @@
 -- What 25 asks of rows: which of them have a text outside the source.
-use Prim.Native.Nat.{ℕ, zero, suc, ◌+◌, ◌-◌, ◌*◌, ◌/◌, ◌≤◌, ◌<◌}
-use mathlib.Core.Path.{◌≡◌, refl, sym}
-use mathlib.Core.Bool.{true, false, not, ◌&&◌, and-true, and-false}
+use Prim.Native.Nat.{ℕ, zero, suc, ◌+◌, ◌*◌, ◌/◌, ◌≤◌, ◌<◌, min}
+use mathlib.Core.Path.{◌≡◌, refl, sym, ap, ◌∙◌}
+use mathlib.Core.Bool.{Bool, false, not, ◌&&◌, ◌||◌, and-true, and-false}
 use mathlib.Core.List.{List}
 use native.Mathlib.Omega.{arith}
 use native.Mathlib.Decide.{dec_lt}
@@ -9,14 +9,13 @@ use borrow.Author.Tests.{lt-ltb, le-ltb}
 use lib.Dec.{eqb}
 use lib.ListN.{length, get_or}
 use Rattle.rows.specs.Peek.{kind_of}
-use Rattle.rows.specs.Rows.{text_at, words_at, row_at, rows_from}
+use Rattle.std.specs.List.{list_any, range_with_len}
+use Rattle.rows.specs.Rows.{text_at, words_at, row_at, rows_from, rows_of}
 use Rattle.rows.specs.declared.Row.{Row}
 use Rattle.rows.proofs.Peeking.{row-cases}
 use Rattle.text.specs.Texts.{is_within}
 use Rattle.text.proofs.Lists.{neither}
-use Rattle.tree.specs.Chain.{rest}
 use Rattle.tree.specs.Place.{row_outside, some_outside}
-use Rattle.tree.proofs.Rows.{rest-cons, rest-nil}
 
 -- ---- row i lies outside if the text that its words say does, and they are a row
 pub row-outside : (s table : List ℕ) (i : ℕ) → i < length table / 10
@@ -39,22 +38,23 @@ unfolding some_outside rows_from
 none-outside s table i zero h = refl
 none-outside s table i (suc k) h = rw (none_row table i h) (none-outside s table (i + 1) k (omega arith))
 
-module _ (s table : List ℕ) (n i : ℕ) where
-  pub outside-past : length table / 10 ≤ i → some_outside s (rest table n i) ≡ false
-  outside-past h = none-outside s table i (n - i) h
+-- those that the table holds tell of all
+held : (s table : List ℕ) (i m k : ℕ) → m ≤ k → (m < k → length table / 10 ≤ i + m) → some_outside s (rows_from table i m) ≡ some_outside s (rows_from table i k)
+unfolding some_outside rows_from
+held s table i zero zero h f = refl
+held s table i zero (suc k) h f = sym (none-outside s table i (suc k) (omega (arith, f (omega arith))))
+held s table i (suc m) zero h f = absurd (omega arith)
+held s table i (suc m) (suc k) h f =
+    ap (λ (b : Bool). row_outside s (row_at table i) || b) (held s table (i + 1) m k (omega arith) (λ l. omega (arith, f (omega arith))))
 
-  pub outside-end : i ≤ n → n ≤ i → some_outside s (rest table n i) ≡ false
-  unfolding some_outside
-  outside-end h k = let e : i ≡ n = omega arith in rw (e, rest-nil table n)
+one_outside : (s table : List ℕ) (i k : ℕ) → list_any (λ j. row_outside s (row_at table j)) (range_with_len i k) ≡ some_outside s (rows_from table i k)
+unfolding some_outside rows_from
+one_outside s table i zero = refl
+one_outside s table i (suc k) = ap (λ (b : Bool). row_outside s (row_at table i) || b) (one_outside s table (i + 1) k)
 
-  module _ (l : i < n) where
-    pub outside-here : row_outside s (row_at table i) ≡ true → some_outside s (rest table n i) ≡ true
-    unfolding some_outside
-    outside-here e = rw (rest-cons table n i l, e)
-
-    pub outside-more : row_outside s (row_at table i) ≡ false → some_outside s (rest table n i) ≡ some_outside s (rest table n (i + 1))
-    unfolding some_outside
-    outside-more e = rw (rest-cons table n i l, e)
+pub any-outside : (s table : List ℕ) (m count : ℕ) → m ≡ min count (length table / 10)
+    → list_any (λ j. row_outside s (row_at table j)) (range_with_len 0 m) ≡ some_outside s (rows_of table count)
+any-outside s table m count h = one_outside s table 0 m ∙ held s table 0 m count (omega arith) (λ l. omega arith)
 
 pub all_placed : (s table : List ℕ) (i k : ℕ) → some_outside s (rows_from table i k) ≡ false
     → (j : ℕ) → i ≤ j → j < i + k → row_outside s (row_at table j) ≡ false

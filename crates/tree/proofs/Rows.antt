@@ -1,4 +1,6 @@
 -- The rows of a table from one on, their parents, and the scopes that stay open before one.
+use Rattle.std.specs.Prelude.{Option, Some, None}
+use Rattle.rows.specs.declared.RowNumber.{RowNumber}
 use Prim.Native.Nat.{ℕ, zero, suc, ◌+◌, ◌-◌, ◌*◌, ◌/◌, ◌≤◌, ◌<◌}
 use mathlib.Core.Path.{◌≡◌, refl, ap, subst}
 use mathlib.Core.Bool.{true}
@@ -10,7 +12,6 @@ use lib.Dec.{ltb}
 use lib.ListN.{length}
 use Rattle.rows.specs.Good.{open_to, is_good_from}
 use Rattle.rows.specs.Rows.{parent_word, parent_of, words_at, row_at, rows_from, rows_of}
-use Rattle.rows.specs.declared.Parent.{Parent}
 use Rattle.rows.specs.declared.Row.{Row}
 use Rattle.scope.specs.declared.ScopeType.{ScopeType}
 use Rattle.scope.specs.declared.Var.{Var}
@@ -56,15 +57,15 @@ named table i =
     (λ e. rw e named_none)
 
 module _ (table : List ℕ) (i : ℕ) where
-  pub scope-parent : {p : Parent} {k : ScopeType} {t : Text} → row_at table i ≡ Row.Scope p k t → parent_of (parent_at table i) ≡ p
+  pub scope-parent : {p : Option RowNumber} {k : ScopeType} {t : Text} → row_at table i ≡ Row.Scope p k t → parent_of (parent_at table i) ≡ p
   unfolding parent_at Named
   scope-parent e = rw e (subst Named e (named table i))
 
-  pub var-parent : {p : Parent} {v : Var} → row_at table i ≡ Row.Var p v → parent_of (parent_at table i) ≡ p
+  pub var-parent : {p : Option RowNumber} {v : Var} → row_at table i ≡ Row.Var p v → parent_of (parent_at table i) ≡ p
   unfolding parent_at Named
   var-parent e = rw e (subst Named e (named table i))
 
-  pub comment-parent : {p : Parent} {t : Text} → row_at table i ≡ Row.Comment p t → parent_of (parent_at table i) ≡ p
+  pub comment-parent : {p : Option RowNumber} {t : Text} → row_at table i ≡ Row.Comment p t → parent_of (parent_at table i) ≡ p
   unfolding parent_at Named
   comment-parent e = rw e (subst Named e (named table i))
 
@@ -86,10 +87,10 @@ length-rows table i zero = refl
 length-rows table i (suc k) = ap suc (length-rows table (i + 1) k)
 
 -- ---- the scopes that stay open
-pub open-other : (p : Parent) (n : ℕ) (st : List ℕ) → (parent_word p ≡ n → ⊥) → open_to p (n ∷ st) ≡ open_to p st
+pub open-other : (p : Option RowNumber) (n : ℕ) (st : List ℕ) → (parent_word p ≡ n → ⊥) → open_to p (n ∷ st) ≡ open_to p st
 unfolding open_to
-open-other Parent.Top n st h = refl
-open-other (Parent.Of q) n st h = rw (ne_eqb q.0 n h)
+open-other None n st h = refl
+open-other (Some q) n st h = rw (ne_eqb q.0 n h)
 
 -- ---- no row is left
 pub good-end : (i : ℕ) (st : List ℕ) → is_good_from i st [] ≡ true

@@ -1,11 +1,11 @@
 -- The open scopes as a chain of parents in the table itself: what the private functions that judge a table promise.
-use Rattle.std.specs.Prelude.{ℕ, zero, suc, ◌+◌, ◌-◌, ◌≤◌, ◌<◌, ◌≡◌, Bool, false, ◌&&◌, List, [], ◌∷◌, eqb}
+use Rattle.tree.specs.declared.Spot.{Spot}
+use Rattle.std.specs.Prelude.{ℕ, zero, suc, ◌+◌, ◌-◌, ◌≤◌, ◌<◌, ◌≡◌, Bool, false, ◌&&◌, List, [], ◌∷◌, eqb, Option, Some, None}
 use Rattle.scope.specs.Limits.{most_levels}
 use Rattle.rows.specs.Good.{open_to, is_good_from}
 use Rattle.rows.specs.Rows.{top, parent_of, row_at, rows_from}
 use Rattle.rows.specs.declared.Row.{Row}
 use Rattle.rows.specs.Peek.{kind_of, parent_in}
-use Rattle.tree.specs.declared.Stood.{Stood}
 
 -- the rows from row i on
 abbrev pub rest : List ℕ → ℕ → ℕ → List Row
@@ -47,6 +47,6 @@ pub record StandsOn (table : List ℕ) (i cur d cur' d' : ℕ) : Type 0 where
   pub deep : d' ≤ most_levels
   pub goes : (rs : List Row) → is_good_from i (chain table cur d) (row_at table i ∷ rs) ≡ is_good_from (i + 1) (chain table cur' d') rs
 
-abbrev pub Stands : List ℕ → ℕ → ℕ → ℕ → Stood → Type 0
-Stands table i cur d (Stood.On spot) = StandsOn table i cur d spot.cur spot.depth
-Stands table i cur d Stood.Off = (rs : List Row) → is_good_from i (chain table cur d) (row_at table i ∷ rs) ≡ false
+abbrev pub Stands : List ℕ → ℕ → ℕ → ℕ → Option Spot → Type 0
+Stands table i cur d (Some spot) = StandsOn table i cur d spot.cur spot.depth
+Stands table i cur d None = (rs : List Row) → is_good_from i (chain table cur d) (row_at table i ∷ rs) ≡ false

@@ -9,6 +9,7 @@ ghost use Rattle.rows.specs.Rows.{rows_of, top};
 ghost use Rattle.tree.specs.Chain.{parent_at, is_var_of, base, Under, Unwound, Stands};
 
 // The parent's word of row i; TOP where there is no such row.
+#[tactic(auto, unfolding(crate::specs::Chain::parent_at))]
 pub fn parent_at(rows: &[u64], i: usize) -> u64
     ensures { result ≡ parent_at rows.now i }
 {
@@ -16,6 +17,7 @@ pub fn parent_at(rows: &[u64], i: usize) -> u64
 }
 
 // Whether row i is a variable of the scope p.
+#[tactic(auto, unfolding(crate::specs::Chain::parent_at))]
 pub fn is_var_of(rows: &[u64], i: usize, p: u64) -> bool
     ensures { result ≡ is_var_of rows.now i p }
 {
@@ -29,51 +31,45 @@ struct Spot {
     depth: usize,
 }
 
-// Whether a row may stand where it does, and the scopes that are open after it.
-#[derive(Clone, Copy)]
-enum Stood {
-    On(Spot),
-    Off,
-}
-
 // The scopes that stay open before an item of the scope p.
 fn unwind(rows: &[u64], p: u64, first: u64, count: usize) -> Spot
     requires { Under rows.now first count }
     ensures { Unwound rows.now p first count result.cur result.depth }
 {
     let mut cur = first;
-    let mut depth = count;
-    while 0 < depth {
+    for closed in 0..count {
         if cur == p {
-            return Spot { cur, depth };
+            return Spot {
+                cur,
+                depth: count - closed,
+            };
         }
         cur = parent_at(rows, cur as usize);
-        depth = depth - 1;
     }
-    Spot { cur, depth }
+    Spot { cur, depth: 0 }
 }
 
 // Row i, where `depth` scopes are open, of which `cur` is the innermost.
-fn stand(rows: &[u64], i: usize, cur: u64, depth: usize) -> Stood
+fn stand(rows: &[u64], i: usize, cur: u64, depth: usize) -> Option<Spot>
     requires { (i < 4096) × (depth ≤ 64) × (base rows.now cur depth ≡ top) × Under rows.now cur depth }
     ensures { Stands rows.now i cur depth result }
 {
     let kind = rows::peek::kind_at(rows, i);
     let p = parent_at(rows, i);
     if kind == 0 {
-        return Stood::Off;
+        return None;
     }
     let spot = unwind(rows, p, cur, depth);
     if spot.cur != p {
-        return Stood::Off;
+        return None;
     }
     if kind != rows::SCOPE {
-        return Stood::On(spot);
+        return Some(spot);
     }
     if rows::LEVELS <= spot.depth {
-        return Stood::Off;
+        return None;
     }
-    Stood::On(Spot {
+    Some(Spot {
         cur: i as u64,
         depth: spot.depth + 1,
     })
@@ -86,20 +82,15 @@ pub fn good_table(rows: &[u64], n: usize) -> bool
     if rows::MOST_ROWS < n {
         return false;
     }
-    let mut i: usize = 0;
-    let mut cur = rows::TOP;
-    let mut depth: usize = 0;
-    while i < n {
-        match stand(rows, i, cur, depth) {
-            Stood::On(spot) => {
-                cur = spot.cur;
-                depth = spot.depth;
-            }
-            Stood::Off => {
-                return false;
-            }
+    let mut spot = Spot {
+        cur: rows::TOP,
+        depth: 0,
+    };
+    for i in 0..n {
+        match stand(rows, i, spot.cur, spot.depth) {
+            Some(next) => spot = next,
+            None => return false,
         }
-        i += 1;
     }
     true
 }

@@ -25,15 +25,6 @@ fn row_outside(src: &[u8], rows: &[u64], i: usize) -> bool
 pub fn some_outside(src: &[u8], rows: &[u64], count: usize) -> bool
     ensures { result ≡ some_outside src.now (rows_of rows.now count) }
 {
-    let mut i: usize = 0;
-    while i < count {
-        if rows.len() / rows::WORDS <= i {
-            return false;
-        }
-        if row_outside(src, rows, i) {
-            return true;
-        }
-        i += 1;
-    }
-    false
+    let held = count.min(rows.len() / rows::WORDS);
+    (0..held).any(|i| row_outside(src, rows, i))
 }

@@ -2,12 +2,11 @@
 // itself answers to them, printed by oracle/src/bin/units.rs.
 #![tactic(auto)]
 
-use idcode::{Following, IdCode, InvalidIdCode, Parsed};
+use idcode::{IdCode, InvalidIdCode};
 use replay::{put, put_byte, put_number, put_text, put_word};
-use scope::{ParsedIndex, ReferenceIndex};
+use scope::ReferenceIndex;
 use text::Spelled;
-use value::vector;
-use value::vector::Bit;
+use value::{Value, vector};
 
 fn main(rt: HostRuntime) {
     let mut out = [0u8; 8192];
@@ -41,20 +40,18 @@ fn show_vector(out: &mut [u8], at: usize, s: &[u8]) -> usize {
     let mut o = put(out, at, b"vector ");
     o = put(out, o, s);
     o = put_number(out, o, vector::len(s) as u64);
-    let mut i: usize = 0;
-    while i <= s.len() {
+    for i in 0..=s.len() {
         o = put_bit(out, o, vector::get(s, i));
-        i += 1;
     }
     o = replay::put_values(out, o, s);
     put_byte(out, o, b'\n')
 }
 
-fn put_bit(out: &mut [u8], at: usize, b: Bit) -> usize {
+fn put_bit(out: &mut [u8], at: usize, b: Option<Value>) -> usize {
     let o = put_byte(out, at, b' ');
     match b {
-        Bit::Is(v) => put_byte(out, o, v.byte()),
-        Bit::None => put_byte(out, o, b'-'),
+        Some(v) => put_byte(out, o, v.byte()),
+        None => put_byte(out, o, b'-'),
     }
 }
 
@@ -63,15 +60,13 @@ fn show_codes(out: &mut [u8], at: usize) -> usize {
     let mut o = at;
     let mut id = IdCode::FIRST;
     let mut back: u64 = 0;
-    let mut i: u64 = 0;
-    while i < 10000 {
+    for i in 0..10000 {
         let spelled = id.spell();
         if reads_back(spelled, id) {
             back += 1;
         }
         o = show_code(out, o, i, spelled);
         id = after(id);
-        i += 1;
     }
     o = put(out, o, b"back");
     o = put_number(out, o, back);
@@ -79,19 +74,16 @@ fn show_codes(out: &mut [u8], at: usize) -> usize {
 }
 
 fn after(id: IdCode) -> IdCode {
-    let next = id.next();
-    match next {
-        Following::Code(i) => i,
-        Following::Nothing => id,
+    match id.next() {
+        Some(i) => i,
+        None => id,
     }
 }
 
 fn reads_back(spelled: Spelled, id: IdCode) -> bool {
-    let bytes = spelled.bytes;
-    let read = IdCode::from_str(replay::front(&bytes, spelled.len));
-    match read {
-        Parsed::Code(i) => i.0 == id.0,
-        Parsed::Refused(_) => false,
+    match IdCode::from_str(replay::front(&spelled.bytes, spelled.len)) {
+        Ok(i) => i.0 == id.0,
+        Err(_) => false,
     }
 }
 
@@ -123,13 +115,13 @@ fn show_id(out: &mut [u8], at: usize, s: &[u8]) -> usize {
     put_byte(out, c, b'\n')
 }
 
-fn put_parsed(out: &mut [u8], at: usize, p: Parsed) -> usize {
+fn put_parsed(out: &mut [u8], at: usize, p: Result<IdCode, InvalidIdCode>) -> usize {
     match p {
-        Parsed::Code(i) => {
+        Ok(i) => {
             let o = put_number(out, at, i.0);
             put_word(out, o, i.spell())
         }
-        Parsed::Refused(e) => match e {
+        Err(e) => match e {
             InvalidIdCode::Empty => put(out, at, b" refused 16"),
             InvalidIdCode::InvalidChars => put(out, at, b" refused 17"),
             InvalidIdCode::TooLong => put(out, at, b" refused 18"),
@@ -153,9 +145,9 @@ fn show_index(out: &mut [u8], at: usize, s: &[u8]) -> usize {
     put_byte(out, c, b'\n')
 }
 
-fn put_index(out: &mut [u8], at: usize, p: ParsedIndex) -> usize {
+fn put_index(out: &mut [u8], at: usize, p: Option<ReferenceIndex>) -> usize {
     match p {
-        ParsedIndex::Is(x) => put_word(out, at, x.spell()),
-        ParsedIndex::Invalid => put(out, at, b" refused 14"),
+        Some(x) => put_word(out, at, x.spell()),
+        None => put(out, at, b" refused 14"),
     }
 }

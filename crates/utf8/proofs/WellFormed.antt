@@ -1,17 +1,19 @@
 -- Laws of well-formed UTF-8 (specs/Utf8.antt). Assumes nothing.
 use Prim.Native.Nat.{ℕ, zero, suc, ◌+◌, ◌-◌, ◌≤◌, ◌<◌}
 use mathlib.Core.Path.{◌≡◌, refl, sym, ap, ◌∙◌}
-use mathlib.Core.Bool.{Bool, true, false, ◌&&◌, ◌||◌, false≢true}
+use mathlib.Core.Bool.{true, false, false≢true}
 use mathlib.Core.List.{List, [], ◌∷◌, ◌++◌}
 use native.Mathlib.Numerals.{add-one}
 use native.Mathlib.Omega.{arith}
-use borrow.Author.Tests.{le-leb, lt-leb, leb-true, ltb-true}
+use borrow.Author.Tests.{le-leb, lt-leb, ltb-false}
 use lib.Dec.{leb, ltb, eqb, eqb-suc-zero}
 use lib.ListN.{length, get_or, drop, replicate, drop_of_length-le}
 use lib.Seq.{drop-cons}
 use Rattle.utf8.specs.declared.Due.{Due}
-use Rattle.utf8.specs.Utf8.{Range, ◌to◌, lies, Row, tail, table37, never, due_after, well_formed, valid_utf8, due_from, due_list}
-use Rattle.text.proofs.Lists.{both, either, and-false, drop-step}
+use Rattle.utf8.specs.Utf8.{Range, ◌to◌, lies, tail, table37, never, due_after, well_formed, valid_utf8, due_from, due_list}
+use Rattle.std.specs.List.{position_or_len}
+use Rattle.text.proofs.Lists.{by-test, both, and-false}
+use Rattle.text.proofs.Slices.{position-within}
 
 -- ---- ranges
 
@@ -27,38 +29,6 @@ module _ (r : Range) (b : ℕ) where
   pub lies-above : r.high < b → lies r b ≡ false
   unfolding lies
   lies-above p = rw (lt-leb b r.high p) (and-false (leb r.low b))
-
--- ---- what is due behind a first byte
-
--- has the range all bytes from l to below u, or none of them?
-abbrev pub one_sided : Range → ℕ → ℕ → Bool
-one_sided r l u = (leb r.low l && leb u (suc r.high)) || (leb u r.low || ltb r.high l)
-
-lies_alike : (r : Range) (l u b : ℕ) → one_sided r l u ≡ true → l ≤ b → b < u → lies r l ≡ lies r b
-lies_alike r l u b e p q =
-    either _ _ e
-    (λ i.
-    let h = both _ _ i in
-    let low = leb-true r.low l h.0 in
-    let high = leb-true u (suc r.high) h.1 in
-    lies_in r l (omega arith) (omega arith) ∙ sym (lies_in r b (omega arith) (omega arith)))
-    (λ o.
-    either _ _ o
-    (λ i. let h = leb-true u r.low i in lies-below r l (omega arith) ∙ sym (lies-below r b (omega arith)))
-    (λ i. let h = ltb-true r.high l i in lies-above r l (omega arith) ∙ sym (lies-above r b (omega arith))))
-
--- do the rows tell none of these bytes apart?
-abbrev pub alike : List Row → ℕ → ℕ → Bool
-alike [] l u = true
-alike (r ∷ rows) l u = one_sided r.first l u && alike rows l u
-
--- then they ask for the same
-pub due-alike : (rows : List Row) {l u b : ℕ} → alike rows l u ≡ true → l ≤ b → b < u → due_after rows l ≡ due_after rows b
-unfolding due_after
-due-alike [] e p q = refl
-due-alike (r ∷ rows) {l} {u} {b} e p q =
-    let h = both (one_sided r.first l u) (alike rows l u) e in
-    rw (lies_alike r.first l u b h.0 p q, due-alike rows h.1 p q)
 
 -- ---- what is due after one byte more
 
@@ -105,13 +75,9 @@ pub record Read (s : List ℕ) (d : Due) (i : ℕ) : Type 0 where
   pub within : i ≤ length s
   pub goes : well_formed (drop i s) (due_list d) ≡ valid_utf8 s
 
--- what stands from i on is judged as the whole is
-abbrev pub AsWhole : List ℕ → ℕ → Type 0
-AsWhole s i = (i ≤ length s) × (valid_utf8 (drop i s) ≡ valid_utf8 s)
-
-pub read-start : (s : List ℕ) (low high i : ℕ) → AsWhole s i → Read s (record { more = 0; low = low; high = high }) i
+pub read-start : (s : List ℕ) (low high : ℕ) → Read s (record { more = 0; low = low; high = high }) 0
 unfolding valid_utf8 due_from
-read-start s low high i w = record { within = w.0; goes = w.1 }
+read-start s low high = record { within = omega arith; goes = refl }
 
 pub read_more : (s : List ℕ) (d e : Due) (i : ℕ) → Read s d i → i < length s
     → Leaves (due_list d) (get_or s i 0) (due_list e) → Read s e (i + 1)
@@ -147,8 +113,13 @@ pub ascii-first : (b : ℕ) (s : List ℕ) → b < 0x80 → valid_utf8 (b ∷ s)
 unfolding valid_utf8 well_formed due_after
 ascii-first b s h = rw (lies_in (0x00 to 0x7F) b (omega arith) (omega arith))
 
-pub ascii-passed : (s : List ℕ) (i : ℕ) → AsWhole s i → i < length s → get_or s i 0 < 0x80 → AsWhole s (i + 1)
-ascii-passed s i w h a = (omega arith, sym (ascii-first (get_or s i 0) (drop (i + 1) s) a) ∙ (rw (drop-step s i h) at w.1))
+-- what stands from the first other byte on is judged as the whole is
+pub ascii-passed : (s : List ℕ) → let i = position_or_len (ltb 127) s in (i ≤ length s) × (valid_utf8 (drop i s) ≡ valid_utf8 s)
+ascii-passed s = (position-within (ltb 127) s, same s)
+  where
+    same : (s : List ℕ) → valid_utf8 (drop (position_or_len (ltb 127) s) s) ≡ valid_utf8 s
+    same [] = refl
+    same (b ∷ s) = by-test (ltb 127 b) (λ q. rw q) (λ q. let l : b < 0x80 = omega (arith, ltb-false 127 b q) in let e : 1 + position_or_len (ltb 127) s ≡ suc (position_or_len (ltb 127) s) = omega arith in rw (q, e) (same s ∙ sym (ascii-first b s l)))
 
 pub empty-valid : valid_utf8 [] ≡ true
 unfolding valid_utf8 well_formed

@@ -20,73 +20,41 @@ fn due_from(more: u8, low: u8, high: u8) -> Due
 }
 
 // What a first byte asks for. A byte that begins no character asks for one byte that none is.
+#[tactic(auto, unfolding(crate::specs::Utf8::lies, crate::specs::Utf8::due_after, crate::specs::Utf8::due_from))]
 fn lead(b: u8) -> Due
     ensures { due_list result ≡ due_after table37 b }
 {
-    if b < 0x80 {
-        return due_from(0, 0x80, 0xBF);
+    match b {
+        0x00..=0x7F => due_from(0, 0x80, 0xBF),
+        0xC2..=0xDF => due_from(1, 0x80, 0xBF),
+        0xE0 => due_from(2, 0xA0, 0xBF),
+        0xE1..=0xEC | 0xEE | 0xEF => due_from(2, 0x80, 0xBF),
+        0xED => due_from(2, 0x80, 0x9F),
+        0xF0 => due_from(3, 0x90, 0xBF),
+        0xF1..=0xF3 => due_from(3, 0x80, 0xBF),
+        0xF4 => due_from(3, 0x80, 0x8F),
+        _ => due_from(1, 1, 0),
     }
-    if b < 0xC2 {
-        return due_from(1, 1, 0);
-    }
-    if b < 0xE0 {
-        return due_from(1, 0x80, 0xBF);
-    }
-    if b < 0xE1 {
-        return due_from(2, 0xA0, 0xBF);
-    }
-    if b < 0xED {
-        return due_from(2, 0x80, 0xBF);
-    }
-    if b < 0xEE {
-        return due_from(2, 0x80, 0x9F);
-    }
-    if b < 0xF0 {
-        return due_from(2, 0x80, 0xBF);
-    }
-    if b < 0xF1 {
-        return due_from(3, 0x90, 0xBF);
-    }
-    if b < 0xF4 {
-        return due_from(3, 0x80, 0xBF);
-    }
-    if b < 0xF5 {
-        return due_from(3, 0x80, 0x8F);
-    }
-    due_from(1, 1, 0)
 }
 
 // What is due after one byte more.
 fn next(d: Due, b: u8) -> Due
     ensures { (s : List ℕ) → well_formed s (due_list result) ≡ well_formed (b ∷ s) (due_list d) }
 {
-    let more = d.more;
-    let low = d.low;
-    let high = d.high;
-    if more == 0 {
+    if d.more == 0 {
         return lead(b);
     }
-    if b < low {
+    if b < d.low || d.high < b {
         return due_from(1, 1, 0);
     }
-    if high < b {
-        return due_from(1, 1, 0);
-    }
-    due_from(more - 1, 0x80, 0xBF)
+    due_from(d.more - 1, 0x80, 0xBF)
 }
 
 // How many bytes below 128 a text begins with: they need no further look, and are mostly all of it.
 fn ascii_end(s: &[u8]) -> usize
     ensures { (result ≤ length s.now) × (valid_utf8 (drop result s.now) ≡ valid_utf8 s.now) }
 {
-    let mut i: usize = 0;
-    while i < s.len() {
-        if 127 < s[i] {
-            return i;
-        }
-        i += 1;
-    }
-    i
+    s.iter().position(|&b| 127 < b).unwrap_or(s.len())
 }
 
 // Whether a text is well-formed UTF-8.
@@ -98,11 +66,8 @@ pub fn valid(s: &[u8]) -> bool
         low: 0x80,
         high: 0xBF,
     };
-    let mut i = ascii_end(s);
-    while i < s.len() {
-        d = next(d, s[i]);
-        i += 1;
+    for &b in &s[ascii_end(s)..] {
+        d = next(d, b);
     }
-    let more = d.more;
-    more == 0
+    d.more == 0
 }

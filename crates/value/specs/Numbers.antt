@@ -1,6 +1,5 @@
 -- The values' numbers: places in the crate's order, from 0; numbers past the last mean the last.
-use Rattle.std.specs.Prelude.{ℕ, List, [], ◌∷◌, get_or}
-use Rattle.value.specs.declared.ParsedValue.{ParsedValue}
+use Rattle.std.specs.Prelude.{ℕ, List, [], ◌∷◌, get_or, Option, Some, None}
 use Rattle.value.specs.declared.Value.{Value}
 
 abbrev pub value_order : List Value
@@ -16,6 +15,6 @@ unfoldable pub value_for : ℕ → Value
 value_for n = get_or value_order n Value.Z
 
 -- the number of what a byte means; of none as of the last
-abbrev pub number_meant : ParsedValue → ℕ
-number_meant (ParsedValue.Is v) = value_number v
-number_meant ParsedValue.Invalid = 3
+abbrev pub number_meant : Option Value → ℕ
+number_meant (Some v) = value_number v
+number_meant None = 3

@@ -1,11 +1,9 @@
 -- The four values, and vectors as texts of them.
-use Rattle.std.specs.Prelude.{ℕ, Bool, true, false, cond, ◌&&◌, List, [], ◌∷◌, ◌++◌, map, ltb, leb, eqb, length, drop, get_or, replicate}
+use Rattle.std.specs.Prelude.{ℕ, Bool, true, false, cond, ◌&&◌, List, [], ◌∷◌, ◌++◌, map, ltb, leb, eqb, length, drop, get_or, replicate, Option, Some, None}
 use Prim.Native.String.{String}
 use Rattle.text.specs.Bytes.{bytes, has}
 use Rattle.value.specs.Numbers.{value_number}
 use Rattle.value.specs.declared.Value.{Value}
-use Rattle.value.specs.declared.ParsedValue.{ParsedValue}
-use Rattle.value.specs.declared.vector.Bit.{Bit}
 use Rattle.value.specs.declared.vector.Written.{Written}
 
 -- The values' characters, said here alone: the bytes that mean a value, in the order of `value_number`; it is written as the first of them.
@@ -21,18 +19,18 @@ abbrev pub firsts_of : List (String × Value) → List ℕ
 firsts_of [] = []
 firsts_of (e ∷ r) = get_or (bytes e.0) 0 0 ∷ firsts_of r
 
-abbrev pub value_in : List (String × Value) → ℕ → ParsedValue
-value_in [] b = ParsedValue.Invalid
-value_in (e ∷ r) b = cond (has (bytes e.0) b) (ParsedValue.Is e.1) (value_in r b)
+abbrev pub value_in : List (String × Value) → ℕ → Option Value
+value_in [] b = None
+value_in (e ∷ r) b = cond (has (bytes e.0) b) (Some e.1) (value_in r b)
 
-unfoldable pub value_of : ℕ → ParsedValue
+unfoldable pub value_of : ℕ → Option Value
 value_of b = value_in values b
 
 -- a value as a text: one byte
-abbrev pub value_text : List ℕ → ParsedValue
-value_text [] = ParsedValue.Invalid
+abbrev pub value_text : List ℕ → Option Value
+value_text [] = None
 value_text (b ∷ []) = value_of b
-value_text (b ∷ c ∷ r) = ParsedValue.Invalid
+value_text (b ∷ c ∷ r) = None
 
 abbrev pub of_bool : Bool → Value
 of_bool true = Value.V1
@@ -52,12 +50,12 @@ are_values [] = true
 are_values (b ∷ v) = is_value b && are_values v
 
 -- the value at a place; none where the text ends before it or no value stands there
-abbrev pub bit_in : ParsedValue → Bit
-bit_in (ParsedValue.Is v) = Bit.Is v
-bit_in ParsedValue.Invalid = Bit.None
+abbrev pub bit_in : Option Value → Option Value
+bit_in (Some v) = Some v
+bit_in None = None
 
-unfoldable pub bit_at : List ℕ → ℕ → Bit
-bit_at s i = cond (ltb i (length s)) (bit_in (value_of (get_or s i 0))) Bit.None
+unfoldable pub bit_at : List ℕ → ℕ → Option Value
+bit_at s i = cond (ltb i (length s)) (bit_in (value_of (get_or s i 0))) None
 
 -- a value's byte in lower case: `X` is `x`, `Z` is `z`
 unfoldable pub lower : ℕ → ℕ

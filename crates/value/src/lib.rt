@@ -16,32 +16,27 @@ pub enum Value {
     Z,
 }
 
-#[derive(Clone, Copy)]
-pub enum ParsedValue {
-    Is(Value),
-    Invalid,
-}
-
 impl Value {
-    pub fn parse(v: u8) -> ParsedValue
+    #[tactic(auto, unfolding(crate::specs::Values::value_of, text::specs::Bytes::has))]
+    pub fn parse(v: u8) -> Option<Value>
         ensures { result ≡ value_of v }
     {
         match v {
-            b'0' => ParsedValue::Is(Value::V0),
-            b'1' => ParsedValue::Is(Value::V1),
-            b'x' | b'X' => ParsedValue::Is(Value::X),
-            b'z' | b'Z' => ParsedValue::Is(Value::Z),
-            _ => ParsedValue::Invalid,
+            b'0' => Some(Value::V0),
+            b'1' => Some(Value::V1),
+            b'x' | b'X' => Some(Value::X),
+            b'z' | b'Z' => Some(Value::Z),
+            _ => None,
         }
     }
 
-    pub fn from_str(s: &[u8]) -> ParsedValue
+    pub fn from_str(s: &[u8]) -> Option<Value>
         ensures { result ≡ value_text s.now }
     {
-        if s.len() != 1 {
-            return ParsedValue::Invalid;
+        match s {
+            [b] => Value::parse(*b),
+            _ => None,
         }
-        Value::parse(s[0])
     }
 
     // `true` is `V1`, `false` is `V0`.
@@ -67,15 +62,11 @@ impl Value {
     pub fn number(self) -> u64
         ensures { result ≡ value_number self }
     {
-        match self {
-            Value::V0 => 0,
-            Value::V1 => 1,
-            Value::X => 2,
-            Value::Z => 3,
-        }
+        self as u64
     }
 
     // The number of the value that a byte means; the last value's where it means none.
+    #[tactic(auto, unfolding(crate::specs::Values::value_of, text::specs::Bytes::has))]
     pub fn number_at(b: u8) -> u64
         ensures { result ≡ number_meant (value_of b) }
     {
@@ -89,6 +80,7 @@ impl Value {
     }
 
     // The value of a number; numbers past the last mean the last.
+    #[tactic(auto, unfolding(crate::specs::Numbers::value_for))]
     pub fn from_number(n: u64) -> Value
         ensures { result ≡ value_for n }
     {

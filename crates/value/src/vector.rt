@@ -3,14 +3,7 @@ ghost use Rattle.std.specs.Prelude.{◌≡◌, length};
 ghost use Rattle.text.specs.Texts.{put_answer, put_bytes};
 ghost use Rattle.value.specs.Values.{is_value, are_values, bit_at, lower, lower_answer, lower_bytes, filled_with};
 
-use crate::{ParsedValue, Value};
-use text::Placed;
-
-#[derive(Clone, Copy)]
-pub enum Bit {
-    Is(Value),
-    None,
-}
+use crate::Value;
 
 // How many bytes were written at a buffer's start. In the other cases nothing changed.
 #[derive(Clone, Copy)]
@@ -21,39 +14,18 @@ pub enum Written {
 }
 
 // Whether a byte means a value: `0` and `1`, which are 48 and 49, come first.
+#[tactic(auto, unfolding(crate::specs::Values::is_value, text::specs::Bytes::has))]
 pub fn is_value(b: u8) -> bool
     ensures { result ≡ is_value b }
 {
-    if b / 2 == 24 {
-        return true;
-    }
-    if b == b'x' {
-        return true;
-    }
-    if b == b'z' {
-        return true;
-    }
-    if b == b'X' {
-        return true;
-    }
-    if b == b'Z' {
-        return true;
-    }
-    false
+    b / 2 == 24 || matches!(b, b'x' | b'z' | b'X' | b'Z')
 }
 
 // Whether each byte means a value. As in the crate, a vector may be empty.
 pub fn is_vector(s: &[u8]) -> bool
     ensures { result ≡ are_values s.now }
 {
-    let mut i = 0;
-    while i < s.len() {
-        if !is_value(s[i]) {
-            return false;
-        }
-        i += 1;
-    }
-    true
+    s.iter().all(|&b| is_value(b))
 }
 
 // The number of bits in the vector.
@@ -64,30 +36,27 @@ pub fn len(s: &[u8]) -> usize
 }
 
 // A bit of the vector by index; none where there is no value.
-pub fn get(s: &[u8], i: usize) -> Bit
+#[tactic(auto, unfolding(crate::specs::Values::bit_at))]
+pub fn get(s: &[u8], i: usize) -> Option<Value>
     ensures { result ≡ bit_at s.now i }
 {
-    if s.len() <= i {
-        return Bit::None;
-    }
-    let v = Value::parse(s[i]);
-    match v {
-        ParsedValue::Is(x) => Bit::Is(x),
-        ParsedValue::Invalid => Bit::None,
+    let Some(&b) = s.get(i) else { return None };
+    match Value::parse(b) {
+        Some(x) => Some(x),
+        None => None,
     }
 }
 
 // A value's byte in lower case.
+#[tactic(auto, unfolding(crate::specs::Values::lower))]
 pub fn lowered(b: u8) -> u8
     ensures { result ≡ lower b }
 {
-    if b == b'X' {
-        return b'x';
+    match b {
+        b'X' => b'x',
+        b'Z' => b'z',
+        _ => b,
     }
-    if b == b'Z' {
-        return b'z';
-    }
-    b
 }
 
 // Writes the vector, in lower case, at the start of `out`.
@@ -100,32 +69,25 @@ pub fn write_lower(s: &[u8], out: &mut [u8]) -> Written
     if out.len() < s.len() {
         return Written::NoRoom;
     }
-    let mut i = 0;
-    while i < s.len() {
-        out[i] = lowered(s[i]);
-        i += 1;
+    for (i, &b) in s.iter().enumerate() {
+        out[i] = lowered(b);
     }
-    Written::Count(i)
+    Written::Count(s.len())
 }
 
 // Writes a vector of `width` bits of the value `v` at the start of `out`.
-pub fn filled(v: Value, width: usize, out: &mut [u8]) -> Placed
+pub fn filled(v: Value, width: usize, out: &mut [u8]) -> Option<usize>
     ensures { (result ≡ put_answer (filled_with v width) out.old) × (out.new ≡ put_bytes (filled_with v width) out.old) }
 {
     if out.len() < width {
-        return Placed::NoRoom;
+        return None;
     }
-    let b = v.byte();
-    let mut i: usize = 0;
-    while i < width {
-        out[i] = b;
-        i += 1;
-    }
-    Placed::Count(width)
+    out[..width].fill(v.byte());
+    Some(width)
 }
 
 // Writes a vector of `width` zeros at the start of `out`.
-pub fn zeros(width: usize, out: &mut [u8]) -> Placed
+pub fn zeros(width: usize, out: &mut [u8]) -> Option<usize>
     ensures { (result ≡ put_answer (filled_with Value.V0 width) out.old) × (out.new ≡ put_bytes (filled_with Value.V0 width) out.old) }
 {
     filled(Value::V0, width, out)

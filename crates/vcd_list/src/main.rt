@@ -6,7 +6,6 @@ ghost use Rattle.std.specs.Prelude.{◌≡◌, ◌+◌, length};
 ghost use Rattle.lines.specs.Lines.{taken};
 ghost use Rattle.list_job.specs.Turns.{lent};
 
-use console::Input;
 use job::Printed;
 use std::fs::Files;
 use std::io::Stderr;
@@ -18,12 +17,12 @@ fn main(rt: HostRuntime) {
     let mut input = input();
     let mut out = output();
     match console::read_input(rt.stdin(), &mut input) {
-        Input::Read(n) => tell(
+        Some(n) => tell(
             rt.stderr(),
             &rt,
             job::print_list(rt.stdout(), console::front(&input, n), &mut out),
         ),
-        Input::Failed => console::fail(rt.stderr(), &rt, b"vcd_list: reading failed\n"),
+        None => console::fail(rt.stderr(), &rt, b"vcd_list: reading failed\n"),
     }
 }
 

@@ -4,7 +4,6 @@
 ghost use Rattle.std.specs.Prelude.{◌≡◌, length};
 ghost use Rattle.reformat_job.specs.Reformat.{lent_bytes};
 
-use console::Input;
 use job::Printed;
 use std::fs::Files;
 use std::io::Stderr;
@@ -13,12 +12,12 @@ fn main(rt: HostRuntime) {
     let mut input = input();
     let mut out = output();
     match console::read_input(rt.stdin(), &mut input) {
-        Input::Read(n) => tell(
+        Some(n) => tell(
             rt.stderr(),
             &rt,
             job::print_reformat(rt.stdout(), console::front(&input, n), &mut out),
         ),
-        Input::Failed => console::fail(rt.stderr(), &rt, b"vcd_reformat: reading failed\n"),
+        None => console::fail(rt.stderr(), &rt, b"vcd_reformat: reading failed\n"),
     }
 }
 

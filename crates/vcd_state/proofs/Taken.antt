@@ -1,4 +1,5 @@
 -- What is known of words that are a state.
+use Rattle.std.specs.Prelude.{Option, Some, None}
 use Prim.Native.Nat.{ℕ, ◌<◌, ◌^◌}
 use mathlib.Core.Path.{◌≡◌, sym, ◌∙◌}
 use mathlib.Core.Bool.{Bool, true, ◌&&◌}
@@ -11,14 +12,12 @@ use Rattle.text.proofs.Lists.{by-test, both}
 use Rattle.token.specs.declared.Cursor.{Cursor}
 use Rattle.write.specs.declared.Writer.{Writer}
 use Rattle.vcd_state.specs.State.{cursor_of, writer_of, is_scale}
-use Rattle.vcd_state.specs.declared.CursorRead.{CursorRead}
-use Rattle.vcd_state.specs.declared.WriterRead.{WriterRead}
 
-abbrev Four : List ℕ → CursorRead → Type 0
-Four w (CursorRead.Is c) = length w ≡ 4
-Four w CursorRead.Bad = Unit {0}
+abbrev Four : List ℕ → Option Cursor → Type 0
+Four w (Some c) = length w ≡ 4
+Four w None = Unit {0}
 
-pub cursor-four : (w : List ℕ) {r : CursorRead} {c : Cursor} → r ≡ cursor_of w → r ≡ CursorRead.Is c → length w ≡ 4
+pub cursor-four : (w : List ℕ) {r : Option Cursor} {c : Cursor} → r ≡ cursor_of w → r ≡ Some c → length w ≡ 4
 unfolding cursor_of
 cursor-four w e h =
     let a : Bool = eqb (length w) 4 in
@@ -27,11 +26,11 @@ cursor-four w e h =
     let l : Four w (cursor_of w) = by-test (a && b && d) (λ t. rw t (eqb-true (length w) 4 (both a b (both (a && b) d t).0).0)) (λ t. rw t tt) in
     rw (sym e ∙ h) at l
 
-abbrev Three : List ℕ → WriterRead → Type 0
-Three w (WriterRead.Is v) = length w ≡ 3
-Three w WriterRead.Bad = Unit {0}
+abbrev Three : List ℕ → Option Writer → Type 0
+Three w (Some v) = length w ≡ 3
+Three w None = Unit {0}
 
-pub writer-three : (w : List ℕ) {r : WriterRead} {v : Writer} → r ≡ writer_of w → r ≡ WriterRead.Is v → length w ≡ 3
+pub writer-three : (w : List ℕ) {r : Option Writer} {v : Writer} → r ≡ writer_of w → r ≡ Some v → length w ≡ 3
 unfolding writer_of
 writer-three w e h =
     let a : Bool = eqb (length w) 3 in

@@ -1,4 +1,7 @@
 -- Words stored one by one, and over the whole of an array.
+use Rattle.std.specs.Prelude.{Option, Some, None}
+use Rattle.timescale.specs.declared.TimescaleUnit.{TimescaleUnit}
+use Rattle.text.specs.declared.Text.{Text}
 use Prim.Native.Nat.{ℕ, suc, ◌+◌, ◌-◌, ◌≤◌, ◌<◌}
 use mathlib.Core.Path.{◌≡◌, refl, ◌∙◌}
 use mathlib.Core.List.{List, [], ◌∷◌, ◌++◌, append_assoc, append-nil}
@@ -8,8 +11,6 @@ use native.Mathlib.Omega.{arith}
 use lib.ListN.{length, take, drop, set, get_or, length-append, length-drop}
 use lib.Seq.{sets, sets-eq, drop-length, get_or-drop, paste-suc}
 use Rattle.header.specs.declared.Header.{Header}
-use Rattle.header.specs.declared.KeptText.{KeptText}
-use Rattle.header.specs.declared.KeptTimescale.{KeptTimescale}
 use Rattle.emit.specs.Put.{stored}
 use Rattle.emit.proofs.Storing.{stored-byte, puts, run-start}
 use Rattle.vcd_state.specs.State.{text_words, scale_words, head_words}
@@ -47,13 +48,13 @@ pub over-all : (o t : List ℕ) → over o t (length o) ≡ take (length o) t
 over-all o t = rw (drop-length o) (append-nil (take (length o) t))
 
 -- ---- what a header keeps
-text-three : (t : KeptText) → length (text_words t) ≡ 3
-text-three KeptText.None = refl
-text-three (KeptText.Is t) = refl
+text-three : (t : Option Text) → length (text_words t) ≡ 3
+text-three None = refl
+text-three (Some t) = refl
 
-scale-three : (t : KeptTimescale) → length (scale_words t) ≡ 3
-scale-three KeptTimescale.None = refl
-scale-three (KeptTimescale.Is n u) = refl
+scale-three : (t : Option (ℕ × TimescaleUnit)) → length (scale_words t) ≡ 3
+scale-three None = refl
+scale-three (Some (n, u)) = refl
 
 pub head-stored : (o : List ℕ) (h : Header) (n : ℕ) → length o ≡ 10
     → stored (stored (stored (set o 0 n) 1 (text_words h.date)) 4 (text_words h.version)) 7 (scale_words h.timescale) ≡ head_words h n

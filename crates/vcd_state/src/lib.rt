@@ -22,32 +22,13 @@ ghost use Rattle.vcd_state.specs.State.{
   scale_words,
 };
 
-use command::{Open, SimulationCommand};
-use header::{Header, KeptText, KeptTimescale};
+use command::SimulationCommand;
+use header::Header;
 use idcode::IdCode;
 use text::Text;
 use timescale::TimescaleUnit;
 use token::Cursor;
 use write::Writer;
-
-#[derive(Clone, Copy)]
-pub enum CursorRead {
-    Is(Cursor),
-    Bad,
-}
-
-#[derive(Clone, Copy)]
-pub enum WriterRead {
-    Is(Writer),
-    Bad,
-}
-
-// What a header keeps, and how many rows it has.
-#[derive(Clone, Copy)]
-pub enum HeadRead {
-    Is(Header, usize),
-    Bad,
-}
 
 pub const CURSOR: usize = 4;
 
@@ -55,37 +36,37 @@ pub const WRITER: usize = 3;
 
 pub const HEAD: usize = 10;
 
-fn open_of(w: u64) -> Open
+fn open_of(w: u64) -> Option<SimulationCommand>
     ensures { result ≡ open_of w }
 {
     match w {
-        0 => Open::None,
-        _ => Open::Of(SimulationCommand::from_number(w - 1)),
+        0 => None,
+        _ => Some(SimulationCommand::from_number(w - 1)),
     }
 }
 
-fn open_word(o: Open) -> u64
+fn open_word(o: Option<SimulationCommand>) -> u64
     ensures { result ≡ open_word o }
 {
     match o {
-        Open::None => 0,
-        Open::Of(k) => k.number() + 1,
+        None => 0,
+        Some(k) => k.number() + 1,
     }
 }
 
-pub fn cursor_of(w: &[u64]) -> CursorRead
+pub fn cursor_of(w: &[u64]) -> Option<Cursor>
     ensures { result ≡ cursor_of w.now }
 {
     if w.len() != CURSOR {
-        return CursorRead::Bad;
+        return None;
     }
     if 1 < w[2] {
-        return CursorRead::Bad;
+        return None;
     }
     if 4 < w[3] {
-        return CursorRead::Bad;
+        return None;
     }
-    CursorRead::Is(Cursor {
+    Some(Cursor {
         place: w[0] as usize,
         line: w[1],
         pending: w[2] == 1,
@@ -104,16 +85,16 @@ pub fn put_cursor(w: &mut [u64], c: Cursor)
     w[3] = open_word(sim);
 }
 
-pub fn writer_of(w: &[u64]) -> WriterRead
+pub fn writer_of(w: &[u64]) -> Option<Writer>
     ensures { result ≡ writer_of w.now }
 {
     if w.len() != WRITER {
-        return WriterRead::Bad;
+        return None;
     }
     if 4 < w[2] {
-        return WriterRead::Bad;
+        return None;
     }
-    WriterRead::Is(Writer {
+    Some(Writer {
         depth: w[0],
         id: IdCode(w[1]),
         sim: open_of(w[2]),
@@ -132,32 +113,32 @@ pub fn put_writer(w: &mut [u64], v: Writer)
 }
 
 // The count of rows; then date, version and timescale, each 1 and two numbers where it is kept, else three zeros.
-pub fn head_of(w: &[u64]) -> HeadRead
+pub fn head_of(w: &[u64]) -> Option<(Header, usize)>
     ensures { result ≡ head_of w.now }
 {
     if w.len() != HEAD {
-        return HeadRead::Bad;
+        return None;
     }
     if !is_kept(w[1], w[2], w[3]) {
-        return HeadRead::Bad;
+        return None;
     }
     if !is_kept(w[4], w[5], w[6]) {
-        return HeadRead::Bad;
+        return None;
     }
     if !is_scale(w[7], w[8], w[9]) {
-        return HeadRead::Bad;
+        return None;
     }
     let date = text_of(w[1], w[2], w[3]);
     let version = text_of(w[4], w[5], w[6]);
     let timescale = scale_of(w[7], w[8], w[9]);
-    HeadRead::Is(
+    Some((
         Header {
             date,
             version,
             timescale,
         },
         w[0] as usize,
-    )
+    ))
 }
 
 // Whether three words are a text that is kept or none.
@@ -181,25 +162,25 @@ fn is_scale(h: u64, n: u64, u: u64) -> bool
     }
 }
 
-fn text_of(h: u64, s: u64, l: u64) -> KeptText
+fn text_of(h: u64, s: u64, l: u64) -> Option<Text>
     ensures { result ≡ text_of h s l }
 {
     match h {
-        0 => KeptText::None,
-        _ => KeptText::Is(Text {
+        0 => None,
+        _ => Some(Text {
             start: s as usize,
             len: l as usize,
         }),
     }
 }
 
-fn scale_of(h: u64, n: u64, u: u64) -> KeptTimescale
+fn scale_of(h: u64, n: u64, u: u64) -> Option<(u32, TimescaleUnit)>
     requires { n < 2 ^ 32 }
     ensures { result ≡ scale_of h n u }
 {
     match h {
-        0 => KeptTimescale::None,
-        _ => KeptTimescale::Is(n as u32, TimescaleUnit::from_number(u)),
+        0 => None,
+        _ => Some((n as u32, TimescaleUnit::from_number(u))),
     }
 }
 
@@ -216,23 +197,23 @@ pub fn put_head(w: &mut [u64], h: Header, count: usize)
     put_scale(w, 7, timescale);
 }
 
-fn put_text(w: &mut [u64], at: usize, t: KeptText)
+fn put_text(w: &mut [u64], at: usize, t: Option<Text>)
     requires { at + 3 ≤ length w.old }
     ensures { w.new ≡ stored w.old at (text_words t) }
 {
     match t {
-        KeptText::None => put_three(w, at, 0, 0, 0),
-        KeptText::Is(x) => put_three(w, at, 1, x.start as u64, x.len as u64),
+        None => put_three(w, at, 0, 0, 0),
+        Some(x) => put_three(w, at, 1, x.start as u64, x.len as u64),
     }
 }
 
-fn put_scale(w: &mut [u64], at: usize, t: KeptTimescale)
+fn put_scale(w: &mut [u64], at: usize, t: Option<(u32, TimescaleUnit)>)
     requires { at + 3 ≤ length w.old }
     ensures { w.new ≡ stored w.old at (scale_words t) }
 {
     match t {
-        KeptTimescale::None => put_three(w, at, 0, 0, 0),
-        KeptTimescale::Is(n, u) => put_three(w, at, 1, n as u64, u.number()),
+        None => put_three(w, at, 0, 0, 0),
+        Some((n, u)) => put_three(w, at, 1, n as u64, u.number()),
     }
 }
 

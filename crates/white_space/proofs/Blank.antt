@@ -1,11 +1,11 @@
 -- Laws of White_Space characters and runs of them (specs/WhiteSpace.antt). Assumes nothing.
 use Prim.Native.Nat.{ℕ, zero, suc, pred, ◌+◌, ◌-◌, ◌/◌, ◌%◌, ◌≤◌, ◌<◌, zero-le}
 use mathlib.Core.Path.{◌≡◌, refl, sym}
-use mathlib.Core.Bool.{Bool, true, false, cond, ◌&&◌, false≢true}
+use mathlib.Core.Bool.{Bool, true, false, cond, false≢true}
 use mathlib.Core.List.{List, [], ◌∷◌, ◌++◌}
 use native.Mathlib.Nat.{add-zero}
 use native.Mathlib.Omega.{arith}
-use borrow.Author.Tests.{lt-ltb, ltb-true, eqb-true, eqb-false}
+use borrow.Author.Tests.{lt-ltb, ltb-true, eqb-true}
 use lib.Dec.{ltb, eqb, lit≤}
 use lib.ListN.{length, get_or, take, drop}
 use lib.Seq.{get_or-drop, drop-cons}
@@ -134,31 +134,6 @@ inside s = begins (λ n. n ≤ length s) white_space s zero-le (λ c p. prefix-w
 pub blank_none : (s : List ℕ) → Missed (take 8 white_space) s → Missed (drop 8 white_space) s → 0 ≡ blank_at s
 unfolding blank_at
 blank_none s few more = sym (missed white_space s (missed-both (take 8 white_space) (drop 8 white_space) s few more))
-
--- is f the number r at l and the n numbers behind it?
-abbrev every : (ℕ → ℕ) → ℕ → ℕ → ℕ → Bool
-every f r l zero = eqb (f l) r
-every f r l (suc n) = eqb (f l) r && every f r (suc l) n
-
-in-run : (f : ℕ → ℕ) (r l n x : ℕ) → every f r l n ≡ true → l ≤ x → x ≤ l + n → r ≡ f x
-in-run f r l zero x e p q = let i : x ≡ l = omega arith in rw i (sym (eqb-true (f l) r e))
-in-run f r l (suc n) x e p q =
-    let h = both (eqb (f l) r) (every f r (suc l) n) e in
-    by-test (eqb x l) (λ i. rw (eqb-true x l i) (sym (eqb-true (f l) r h.0)))
-    (λ o. let g = eqb-false x l o in in-run f r (suc l) n x h.1 (omega arith) (omega arith))
-
--- U+0009 to 000D; U+2000 to 200A; U+2028 and 2029
-pub controls : (a : ℕ) (s : List ℕ) → 0x09 ≤ a → a < 0x0E → 1 ≡ blank_at (a ∷ s)
-unfolding blank_at begins_with starts
-controls a s p q = in-run (λ x. blank_at (x ∷ s)) 1 0x09 4 a refl p (omega arith)
-
-pub quads : (c : ℕ) → 0x80 ≤ c → c ≤ 0x8A → 3 ≡ blank_at (0xE2 ∷ 0x80 ∷ c ∷ [])
-unfolding blank_at begins_with starts
-quads c p q = in-run (λ x. blank_at (0xE2 ∷ 0x80 ∷ x ∷ [])) 3 0x80 10 c refl p q
-
-pub breaks : (c : ℕ) → 0xA8 ≤ c → c ≤ 0xA9 → 3 ≡ blank_at (0xE2 ∷ 0x80 ∷ c ∷ [])
-unfolding blank_at begins_with starts
-breaks c p q = in-run (λ x. blank_at (0xE2 ∷ 0x80 ∷ x ∷ [])) 3 0xA8 1 c refl p q
 
 -- past the end stands 0, which no White_Space has
 three-bytes : (s : List ℕ) → blank_at s ≡ blank_at (get_or s 0 0 ∷ get_or s 1 0 ∷ get_or s 2 0 ∷ [])

@@ -8,57 +8,45 @@ ghost use Rattle.white_space.specs.WhiteSpace.{blank_at, blanks, Before, kept_of
 use text::Text;
 
 // How many bytes the White_Space character has that begins a, b, c; 0 where they begin none.
+#[tactic(auto, unfolding(crate::specs::WhiteSpace::blank_at, crate::specs::WhiteSpace::begins_with, text::specs::Bytes::starts))]
 fn blank_of(a: u8, b: u8, c: u8) -> usize
     ensures { result ≡ blank_at (a ∷ b ∷ c ∷ []) }
 {
-    if a < 0x09 {
-        return 0;
+    match a {
+        0x09..=0x0D | 0x20 => 1,
+        0xC2 => blank_c2(b),
+        0xE1 => blank_pair(0x9A, 0x80, b, c),
+        0xE2 => blank_e2(b, c),
+        0xE3 => blank_pair(0x80, 0x80, b, c),
+        _ => 0,
     }
-    if a < 0x0E {
-        return 1;
-    }
-    if a == 0x20 {
-        return 1;
-    }
-    if a == 0xC2 {
-        return blank_c2(b);
-    }
-    if a == 0xE1 {
-        return blank_pair(0x9A, 0x80, b, c);
-    }
-    if a == 0xE2 {
-        return blank_e2(b, c);
-    }
-    if a == 0xE3 {
-        return blank_pair(0x80, 0x80, b, c);
-    }
-    0
 }
 
 // The same behind the byte 0xC2.
+#[tactic(auto, unfolding(crate::specs::WhiteSpace::blank_at, crate::specs::WhiteSpace::begins_with, text::specs::Bytes::starts))]
 fn blank_c2(b: u8) -> usize
     ensures { result ≡ blank_at (0xC2 ∷ b ∷ []) }
 {
-    if b == 0x85 {
-        return 2;
+    match b {
+        0x85 | 0xA0 => 2,
+        _ => 0,
     }
-    if b == 0xA0 {
-        return 2;
-    }
-    0
 }
 
 // The same behind the byte 0xE2.
+#[tactic(auto, unfolding(crate::specs::WhiteSpace::blank_at, crate::specs::WhiteSpace::begins_with, text::specs::Bytes::starts))]
 fn blank_e2(b: u8, c: u8) -> usize
     ensures { result ≡ blank_at (0xE2 ∷ b ∷ c ∷ []) }
 {
     if b == 0x80 {
-        return blank_e2_80(c);
+        blank_e2_80(c)
+    } else {
+        blank_pair(0x81, 0x9F, b, c)
     }
-    blank_pair(0x81, 0x9F, b, c)
 }
 
 // The same behind the bytes 0xE2 and 0x80.
+#[tactic(auto, unfolding(crate::specs::WhiteSpace::blank_at, crate::specs::WhiteSpace::begins_with, text::specs::Bytes::starts))]
 fn blank_e2_80(c: u8) -> usize
     ensures { result ≡ blank_at (0xE2 ∷ 0x80 ∷ c ∷ []) }
 {
@@ -69,23 +57,18 @@ fn blank_e2_80(c: u8) -> usize
 }
 
 // 3 where b and c are x and y, the last two bytes of a character; 0 where they are not.
+#[tactic(auto, unfolding(text::specs::Bytes::starts))]
 fn blank_pair(x: u8, y: u8, b: u8, c: u8) -> usize
     ensures { result ≡ cond (starts (x ∷ y ∷ []) (b ∷ c ∷ [])) 3 0 }
 {
-    if x == b {
-        if y == c {
-            return 3;
-        }
-        return 0;
-    }
-    0
+    if x == b && y == c { 3 } else { 0 }
 }
 
 // The byte at i, or 0 past the end.
 fn byte_at(s: &[u8], i: usize) -> u8
     ensures { result ≡ get_or s.now i 0 }
 {
-    if i < s.len() { s[i] } else { 0 }
+    s.get(i).copied().unwrap_or(0)
 }
 
 // How many bytes the White_Space character has that begins at i, 0 where none does.
@@ -96,7 +79,7 @@ fn blank_at(s: &[u8], i: usize) -> usize
     blank_of(byte_at(s, i), byte_at(s, i + 1), byte_at(s, i + 2))
 }
 
-// How many bytes of White_Space a text begins with.
+// How many bytes of White_Space a text begins with. A step is one to three bytes, so no `for` goes over them.
 fn leading(s: &[u8]) -> usize
     ensures { result ≡ blanks 0 s.now }
 {
@@ -137,7 +120,7 @@ fn blank_before(s: &[u8], j: usize) -> usize
     0
 }
 
-// How many bytes are left of a text without the White_Space at its end.
+// How many bytes are left of a text without the White_Space at its end. A step back is one to three bytes too.
 fn kept(s: &[u8]) -> usize
     ensures { result ≡ kept_of s.now }
 {

@@ -1,4 +1,5 @@
 -- Laws of widening: each way out of it, and the bytes that it leaves, laid in two parts.
+use Rattle.std.specs.Prelude.{Result, Ok, Err}
 use Prim.Native.Nat.{ℕ, ◌+◌, ◌-◌, ◌≤◌, ◌<◌}
 use mathlib.Core.Path.{◌≡◌, refl, sym, ◌∙◌}
 use mathlib.Core.Bool.{true, false}
@@ -15,7 +16,6 @@ use Rattle.text.proofs.Lists.{cond_same}
 use Rattle.value.specs.Values.{are_values, lower, lower_bytes, filled_with}
 use Rattle.value.specs.declared.Value.{Value}
 use Rattle.widen.specs.Widen.{missing, widened, is_widenable, widen_answer, widen_bytes}
-use Rattle.widen.specs.declared.Widened.{Widened}
 
 -- ---- the parts that are judged
 pub widenable-none : (v : List ℕ) → length v ≡ 0 → is_widenable v ≡ false
@@ -79,26 +79,26 @@ two-parts n z r v e q h =
 
 -- ---- the ways out
 module _ (s : List ℕ) (t : Text) (width : ℕ) (out : List ℕ) where
-  abbrev Leaves : Widened → List ℕ → Type 0
+  abbrev Leaves : Result ℕ Refusal → List ℕ → Type 0
   Leaves r left = (r ≡ widen_answer s t width out) × (left ≡ widen_bytes s t width out)
 
-  pub widen-outside : outside s t ≡ true → Leaves (Widened.Refused Refusal.BadPlace) out
+  pub widen-outside : outside s t ≡ true → Leaves (Err Refusal.BadPlace) out
   unfolding widen_answer widen_bytes
   widen-outside h = rw h (refl, refl)
 
   -- the vector v lies in the input
   module _ (v : List ℕ) (h : outside s t ≡ false) (q : v ≡ part s t) where
-    pub widen-invalid : is_widenable v ≡ false → Leaves (Widened.Refused Refusal.InvalidValueChar) out
+    pub widen-invalid : is_widenable v ≡ false → Leaves (Err Refusal.InvalidValueChar) out
     unfolding widen_answer widen_bytes
     widen-invalid g = rw (h, sym q, g) (refl, refl)
 
-    pub widen-no-room : is_widenable v ≡ true → length out < missing width (length v) + length v → Leaves (Widened.Refused Refusal.NoRoom) out
+    pub widen-no-room : is_widenable v ≡ true → length out < missing width (length v) + length v → Leaves (Err Refusal.NoRoom) out
     unfolding widen_answer widen_bytes put_answer put_bytes
     widen-no-room g r =
         rw (h, sym q, g, lt-leb (length (widened v width)) (length out) (omega (arith, widened-length v width))) (refl, refl)
 
     pub widen-whole : (left : List ℕ) → is_widenable v ≡ true → missing width (length v) + length v ≤ length out
-        → left ≡ put_bytes (widened v width) out → Leaves (Widened.Bytes (missing width (length v) + length v)) left
+        → left ≡ put_bytes (widened v width) out → Leaves (Ok (missing width (length v) + length v)) left
     unfolding widen_answer widen_bytes put_answer
     widen-whole left g r e =
         let n = widened-length v width in
@@ -107,7 +107,7 @@ module _ (s : List ℕ) (t : Text) (width : ℕ) (out : List ℕ) where
     -- the fill, which leaves o, then p after it
     pub widen-laid : (fill : ℕ) (o p left : List ℕ) → fill ≡ missing width (length v) → is_widenable v ≡ true → fill ≤ length out
         → length v ≤ length out - fill → o ≡ put_bytes (filled_with Value.V0 fill) out → p ≡ lower_bytes v (take (length o - fill) (drop fill o))
-        → left ≡ take fill o ++ (p ++ drop (length o - fill) (drop fill o)) → Leaves (Widened.Bytes (fill + length v)) left
+        → left ≡ take fill o ++ (p ++ drop (length o - fill) (drop fill o)) → Leaves (Ok (fill + length v)) left
     unfolding put_bytes widened
     widen-laid fill o p left m g a b x y w =
         let z : List ℕ = filled_with Value.V0 fill in

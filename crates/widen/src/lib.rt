@@ -5,36 +5,30 @@ ghost use Rattle.std.specs.Prelude.{◌≡◌};
 ghost use Rattle.widen.specs.Widen.{is_widenable, missing as missing_of, widen_answer, widen_bytes};
 
 use command::Refusal;
-use text::{Placed, Text};
+use text::Text;
 use value::Value;
 
-#[derive(Clone, Copy)]
-pub enum Widened {
-    Bytes(usize),
-    Refused(Refusal),
-}
-
 // Longer vectors, and widths above 1,024, get no fill.
-pub fn widen(input: &[u8], t: Text, width: u32, out: &mut [u8]) -> Widened
+pub fn widen(input: &[u8], t: Text, width: u32, out: &mut [u8]) -> Result<usize, Refusal>
     ensures { (result ≡ widen_answer input.now t width out.old) × (out.new ≡ widen_bytes input.now t width out.old) }
 {
     if text::outside(input, t) {
-        return Widened::Refused(Refusal::BadPlace);
+        return Err(Refusal::BadPlace);
     }
     let v = text::part(input, t);
     if !is_widenable(v) {
-        return Widened::Refused(Refusal::InvalidValueChar);
+        return Err(Refusal::InvalidValueChar);
     }
     let fill = missing(width, v.len());
     if out.len() < fill {
-        return Widened::Refused(Refusal::NoRoom);
+        return Err(Refusal::NoRoom);
     }
     if out.len() - fill < v.len() {
-        return Widened::Refused(Refusal::NoRoom);
+        return Err(Refusal::NoRoom);
     }
     value::vector::zeros(fill, out);
     value::vector::write_lower(v, &mut out[fill..]);
-    Widened::Bytes(fill + v.len())
+    Ok(fill + v.len())
 }
 
 fn is_widenable(v: &[u8]) -> bool

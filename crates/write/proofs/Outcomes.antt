@@ -1,4 +1,5 @@
 -- The ways to answer a command, one law for each.
+use Rattle.std.specs.Prelude.{Option, Result, Err}
 use Prim.Native.Nat.{ℕ, ◌≤◌, ◌<◌}
 use mathlib.Core.Path.{◌≡◌, refl, sym, ap, ◌∙◌}
 use mathlib.Core.Bool.{Bool, true, false}
@@ -9,24 +10,21 @@ use Rattle.command.specs.declared.Command.{Command}
 use Rattle.command.specs.declared.Refusal.{Refusal}
 use Rattle.idcode.specs.declared.IdCode.{IdCode}
 use Rattle.text.specs.Texts.{limit, too_long, put_answer, put_bytes}
-use Rattle.text.specs.declared.Placed.{Placed}
 use Rattle.text.proofs.Limit.{too_long_lem, not-long, none-long, outside-long}
 use Rattle.write.specs.Call.{Outcome, outcome, written, misplaced, call, added, Does, Adds}
-use Rattle.write.specs.declared.Added.{Added}
 use Rattle.write.specs.declared.Writer.{Writer}
-use Rattle.write.specs.declared.Written.{Written}
 
 module _ (out ok : Bool) (w : Writer) (b o : List ℕ) where
-  pub bad-place : out ≡ true → Does (Written.Refused Refusal.BadPlace) o (outcome out ok w b o)
+  pub bad-place : out ≡ true → Does (Err Refusal.BadPlace) o (outcome out ok w b o)
   unfolding outcome
   bad-place e = rw e (record { answers = refl; leaves = refl })
 
-  pub not-writable : out ≡ false → ok ≡ false → Does (Written.Refused Refusal.NotWritable) o (outcome out ok w b o)
+  pub not-writable : out ≡ false → ok ≡ false → Does (Err Refusal.NotWritable) o (outcome out ok w b o)
   unfolding outcome
   not-writable e f = rw (e, f) (record { answers = refl; leaves = refl })
 
   -- the state v was answered for the bytes l: they are those of the outcome
-  pub laid_out : out ≡ false → ok ≡ true → {r : Written} {left l : List ℕ} {v : Writer} {p : Placed} → r ≡ written v p
+  pub laid_out : out ≡ false → ok ≡ true → {r : Result (ℕ × Writer) Refusal} {left l : List ℕ} {v : Writer} {p : Option ℕ} → r ≡ written v p
       → (p ≡ put_answer l o) × (left ≡ put_bytes l o) → v ≡ w → l ≡ b → Does r left (outcome out ok w b o)
   unfolding outcome
   laid_out e f q d g h = rw (e, f, ← g, ← h) (record { answers = q ∙ ap (written _) d.0; leaves = d.1 })
@@ -40,7 +38,7 @@ module _ (P : List ℕ → Bool) {v t : List ℕ} {r : Bool} (e : v ≡ t) (q : 
   judged-yes h = ap P (sym e) ∙ sym q ∙ h
 
 -- the id that was given is told beside the answer
-pub added_of : (i : IdCode) {r : Written} {o : List ℕ} {x : Outcome} → Does r o x → Adds i (added i r) o x
+pub added_of : (i : IdCode) {r : Result (ℕ × Writer) Refusal} {o : List ℕ} {x : Outcome} → Does r o x → Adds i (added i r) o x
 added_of i d = record { answers = ap (added i) d.answers; leaves = d.leaves }
 
 -- ---- any command: an input over the limit is refused, and one within it says nothing about a command that has no text
@@ -62,18 +60,18 @@ module _ (w : Writer) (s : List ℕ) where
   long h (Command.Begin k) = too_long_lem s h
   long h (Command.End k) = too_long_lem s h
 
-  pub long-call : (k : Command) (o : List ℕ) → limit < length s → Does (Written.Refused Refusal.BadPlace) o (call w s k o)
+  pub long-call : (k : Command) (o : List ℕ) → limit < length s → Does (Err Refusal.BadPlace) o (call w s k o)
   unfolding call
   long-call k o h = bad-place _ _ _ _ _ (long h k)
 
   module _ (k : Command) (o : List ℕ) (m : misplaced s k ≡ too_long s) (n : misplaced [] k ≡ too_long []) (e : meaning s k ≡ meaning [] k) where
-    pub no_text : length s ≤ limit → {r : Written} {left : List ℕ} → Does r left (call w [] k o) → Does r left (call w s k o)
+    pub no_text : length s ≤ limit → {r : Result (ℕ × Writer) Refusal} {left : List ℕ} → Does r left (call w [] k o) → Does r left (call w s k o)
     unfolding call
     no_text h d = rw (m ∙ not-long s h ∙ sym (n ∙ none-long), e) d
 
 -- ---- the statements pin the answer and every byte
-pub determined : {r r' : Written} {o o' : List ℕ} (x : Outcome) → Does r o x → Does r' o' x → (r ≡ r') × (o ≡ o')
+pub determined : {r r' : Result (ℕ × Writer) Refusal} {o o' : List ℕ} (x : Outcome) → Does r o x → Does r' o' x → (r ≡ r') × (o ≡ o')
 determined x d e = (d.answers ∙ sym e.answers, d.leaves ∙ sym e.leaves)
 
-pub determined-id : (i : IdCode) {r r' : Added} {o o' : List ℕ} (x : Outcome) → Adds i r o x → Adds i r' o' x → (r ≡ r') × (o ≡ o')
+pub determined-id : (i : IdCode) {r r' : Result (ℕ × Writer × IdCode) Refusal} {o o' : List ℕ} (x : Outcome) → Adds i r o x → Adds i r' o' x → (r ≡ r') × (o ≡ o')
 determined-id i x d e = (d.answers ∙ sym e.answers, d.leaves ∙ sym e.leaves)

@@ -1,5 +1,5 @@
 -- What a call answers and what it leaves in the output: one pattern for every command.
-use Rattle.std.specs.Prelude.{ℕ, ◌≡◌, Bool, cond, List}
+use Rattle.std.specs.Prelude.{ℕ, ◌≡◌, Bool, cond, List, Option, Some, None, Result, Ok, Err}
 use Rattle.command.specs.Meaning.{Meaning, meaning}
 use Rattle.command.specs.declared.Command.{Command}
 use Rattle.command.specs.declared.Refusal.{Refusal}
@@ -7,25 +7,22 @@ use Rattle.idcode.specs.declared.IdCode.{IdCode}
 use Rattle.scope.specs.declared.ReferenceIndex.{ReferenceIndex}
 use Rattle.scope.specs.declared.VarType.{VarType}
 use Rattle.text.specs.Texts.{too_long, outside, put_answer, put_bytes}
-use Rattle.text.specs.declared.Placed.{Placed}
 use Rattle.text.specs.declared.Text.{Text}
 use Rattle.write.specs.Layout.{layout, writable, state_after}
-use Rattle.write.specs.declared.Added.{Added}
 use Rattle.write.specs.declared.Writer.{Writer}
-use Rattle.write.specs.declared.Written.{Written}
 
 -- the answer, and the output afterwards
 pub record Outcome : Type 0 where
-  pub answer : Written
+  pub answer : Result (ℕ × Writer) Refusal
   pub left : List ℕ
 
 -- refused: no byte changes
 abbrev pub refusal : Refusal → List ℕ → Outcome
-refusal e o = record { answer = Written.Refused e; left = o }
+refusal e o = record { answer = Err e; left = o }
 
-abbrev pub written : Writer → Placed → Written
-written w (Placed.Count n) = Written.Bytes n w
-written w Placed.NoRoom = Written.Refused Refusal.NoRoom
+abbrev pub written : Writer → Option ℕ → Result (ℕ × Writer) Refusal
+written w (Some n) = Ok (n, w)
+written w None = Err Refusal.NoRoom
 
 -- the bytes b at the start of the output o and the state w, or 21
 abbrev pub fitted : Writer → List ℕ → List ℕ → Outcome
@@ -60,18 +57,18 @@ call w s k o =
     outcome (misplaced s k) (writable w m) (state_after w m) (layout m) o
 
 -- the answer r and the output o are those of the outcome x
-pub record Does (r : Written) (o : List ℕ) (x : Outcome) : Type 0 where
+pub record Does (r : Result (ℕ × Writer) Refusal) (o : List ℕ) (x : Outcome) : Type 0 where
   pub answers : r ≡ x.answer
   pub leaves : o ≡ x.left
 
 -- a variable with the next id: the answer names it
-abbrev pub added : IdCode → Written → Added
-added i (Written.Bytes n w) = Added.Bytes n w i
-added i (Written.Refused e) = Added.Refused e
+abbrev pub added : IdCode → Result (ℕ × Writer) Refusal → Result (ℕ × Writer × IdCode) Refusal
+added i (Ok (n, w)) = Ok (n, w, i)
+added i (Err e) = Err e
 
 abbrev pub new_var : Writer → VarType → ℕ → Text → ReferenceIndex → Command
 new_var w k n t x = Command.VarDef k n w.id t x
 
-pub record Adds (i : IdCode) (r : Added) (o : List ℕ) (x : Outcome) : Type 0 where
+pub record Adds (i : IdCode) (r : Result (ℕ × Writer × IdCode) Refusal) (o : List ℕ) (x : Outcome) : Type 0 where
   pub answers : r ≡ added i x.answer
   pub leaves : o ≡ x.left

@@ -1,9 +1,8 @@
 -- How a command is laid out, when it may be written, and the state after it.
-use Rattle.std.specs.Prelude.{ℕ, ◌+◌, ◌-◌, ◌^◌, Bool, true, false, cond, not, ◌&&◌, List, [], ◌∷◌, leb, eqb}
+use Rattle.std.specs.Prelude.{ℕ, ◌+◌, ◌-◌, ◌^◌, Bool, true, false, cond, not, ◌&&◌, List, [], ◌∷◌, leb, eqb, Option, Some, None}
 use Rattle.scope.specs.Limits.{most_levels}
 use Rattle.command.specs.Numbers.{sim_number}
 use Rattle.command.specs.Meaning.{Meaning, remark, timescale, scope_def, upscope, var_def, enddefinitions, timestamp, change, begin, end, Change, scalar, vector, real, string, remark_word, open_after}
-use Rattle.command.specs.declared.Open.{Open}
 use Rattle.command.specs.declared.Word.{Word}
 use Rattle.command.specs.declared.SimulationCommand.{SimulationCommand}
 use Rattle.idcode.specs.Id.{id_text}
@@ -45,9 +44,9 @@ unfoldable pub is_id : IdCode → Bool
 is_id i = not (eqb i.0 (2 ^ 64 - 1))
 
 -- is it this one that is open?
-unfoldable pub is_open : Open → SimulationCommand → Bool
-is_open Open.None k = false
-is_open (Open.Of j) k = eqb (sim_number j) (sim_number k)
+unfoldable pub is_open : Option SimulationCommand → SimulationCommand → Bool
+is_open None k = false
+is_open (Some j) k = eqb (sim_number j) (sim_number k)
 
 abbrev pub is_change : Change → Bool
 is_change (scalar x) = true
@@ -100,4 +99,4 @@ unfoldable pub state_after : Writer → Meaning → Writer
 state_after w m = record { depth = depth_after m w.depth; id = id_after m w.id; sim = open_after m w.sim }
 
 abbrev pub fresh : Writer
-fresh = record { depth = 0; id = record { 0 = 0 }; sim = Open.None }
+fresh = record { depth = 0; id = record { 0 = 0 }; sim = None }

@@ -11,10 +11,10 @@ ghost use Rattle.write.specs.Call.{call, outcome, written, new_var, Does, Adds};
 ghost use Rattle.write.specs.Layout.{fresh, raised as raised_id, is_open};
 ghost use Rattle.emit.specs.Put.{concat};
 
-use command::{Command, Open, Refusal, SimulationCommand, Time};
+use command::{Command, Refusal, SimulationCommand, Time};
 use idcode::IdCode;
 use scope::{ReferenceIndex, ScopeType, Var, VarType};
-use text::{Placed, Text};
+use text::Text;
 use timescale::TimescaleUnit;
 use value::Value;
 
@@ -26,32 +26,24 @@ pub struct Writer {
     // the id that `add_var` gives next
     pub id: IdCode,
     // the open simulation command
-    pub sim: Open,
+    pub sim: Option<SimulationCommand>,
 }
 
-#[derive(Clone, Copy)]
-pub enum Written {
-    Bytes(usize, Writer),
-    Refused(Refusal),
-}
+pub type Written = Result<(usize, Writer), Refusal>;
 
 // What was written, with the id that was given.
-#[derive(Clone, Copy)]
-pub enum Added {
-    Bytes(usize, Writer, IdCode),
-    Refused(Refusal),
-}
+pub type Added = Result<(usize, Writer, IdCode), Refusal>;
 
 // No id: the largest number has no text.
 const NO_ID: u64 = 0xffff_ffff_ffff_ffff;
 
 // Whether it is `k` that is open.
-fn names_open(o: Open, k: SimulationCommand) -> bool
+fn names_open(o: Option<SimulationCommand>, k: SimulationCommand) -> bool
     ensures { result ≡ is_open o k }
 {
     match o {
-        Open::None => false,
-        Open::Of(j) => j.number() == k.number(),
+        None => false,
+        Some(j) => j.number() == k.number(),
     }
 }
 
@@ -74,17 +66,17 @@ impl Writer {
         Writer {
             depth: 0,
             id: IdCode::FIRST,
-            sim: Open::None,
+            sim: None,
         }
     }
 
     // The answer where only the room was in question.
-    fn laid(self, p: Placed) -> Written
+    fn laid(self, p: Option<usize>) -> Written
         ensures { result ≡ written self p }
     {
         match p {
-            Placed::Count(n) => Written::Bytes(n, self),
-            Placed::NoRoom => Written::Refused(Refusal::NoRoom),
+            Some(n) => Ok((n, self)),
+            None => Err(Refusal::NoRoom),
         }
     }
 
@@ -104,7 +96,7 @@ impl Writer {
         Writer { depth, id, sim }
     }
 
-    fn with_open(self, sim: Open) -> Writer
+    fn with_open(self, sim: Option<SimulationCommand>) -> Writer
         ensures { result ≡ record { depth = self.depth; id = self.id; sim = sim } }
     {
         let depth = self.depth;
@@ -138,11 +130,11 @@ impl Writer {
         ensures { Does result out.new (outcome (outside src.now t) (is_remark (part src.now t)) self (concat (bytes "$" ∷ word.now ∷ bytes "\n    " ∷ part src.now t ∷ bytes "\n" ∷ end_mark ∷ bytes "\n" ∷ [])) out.old) }
     {
         if text::outside(src, t) {
-            return Written::Refused(Refusal::BadPlace);
+            return Err(Refusal::BadPlace);
         }
         let v = text::part(src, t);
         if !write_check::is_remark(v) {
-            return Written::Refused(Refusal::NotWritable);
+            return Err(Refusal::NotWritable);
         }
         self.laid(emit::emit_closed(word, b"\n    ", v, b"", b"", b'\n', out))
     }
@@ -152,7 +144,7 @@ impl Writer {
         ensures { Does result out.new (call self [] (Command.Timescale ts unit) out.old) }
     {
         if 99999999 < ts {
-            return Written::Refused(Refusal::NotWritable);
+            return Err(Refusal::NotWritable);
         }
         let n = number::decimal(ts as u64);
         let digits = n.bytes;
@@ -174,15 +166,15 @@ impl Writer {
         ensures { Does result out.new (call self src.now (Command.ScopeDef t i) out.old) }
     {
         if text::outside(src, i) {
-            return Written::Refused(Refusal::BadPlace);
+            return Err(Refusal::BadPlace);
         }
         let v = text::part(src, i);
         if !write_check::is_name(v) {
-            return Written::Refused(Refusal::NotWritable);
+            return Err(Refusal::NotWritable);
         }
         let depth = self.depth;
         if 64 <= depth {
-            return Written::Refused(Refusal::NotWritable);
+            return Err(Refusal::NotWritable);
         }
         let k = t.spell();
         let name = k.bytes;
@@ -211,7 +203,7 @@ impl Writer {
     {
         let depth = self.depth;
         if depth == 0 {
-            return Written::Refused(Refusal::NotWritable);
+            return Err(Refusal::NotWritable);
         }
         let w = self.at_depth(depth - 1);
         w.laid(emit::emit_bare(&command::UPSCOPE, out))
@@ -231,18 +223,18 @@ impl Writer {
         ensures { Does result out.new (call self src.now (Command.VarDef var_type width id reference index) out.old) }
     {
         if text::outside(src, reference) {
-            return Written::Refused(Refusal::BadPlace);
+            return Err(Refusal::BadPlace);
         }
         let code = id.0;
         if code == NO_ID {
-            return Written::Refused(Refusal::NotWritable);
+            return Err(Refusal::NotWritable);
         }
         let v = text::part(src, reference);
         if !write_check::is_name(v) {
-            return Written::Refused(Refusal::NotWritable);
+            return Err(Refusal::NotWritable);
         }
         if self.depth == 0 {
-            return Written::Refused(Refusal::NotWritable);
+            return Err(Refusal::NotWritable);
         }
         let last = self.id;
         let w = self.with_id(IdCode(raised(code, last.0)));
@@ -263,8 +255,8 @@ impl Writer {
     {
         let id = self.id;
         match self.var_def(src, var_type, width, id, reference, index, out) {
-            Written::Bytes(n, w) => Added::Bytes(n, w, id),
-            Written::Refused(e) => Added::Refused(e),
+            Ok((n, w)) => Ok((n, w, id)),
+            Err(e) => Err(e),
         }
     }
 
@@ -298,7 +290,7 @@ impl Writer {
         ensures { Does result out.new (call self [] Command.Enddefinitions out.old) }
     {
         if 0 < self.depth {
-            return Written::Refused(Refusal::NotWritable);
+            return Err(Refusal::NotWritable);
         }
         self.laid(emit::emit_bare(&command::ENDDEFINITIONS, out))
     }
@@ -315,7 +307,7 @@ impl Writer {
         ensures { Does result out.new (call self [] (Command.ChangeScalar id v) out.old) }
     {
         if id.0 == NO_ID {
-            return Written::Refused(Refusal::NotWritable);
+            return Err(Refusal::NotWritable);
         }
         self.laid(emit::emit_scalar(v.byte(), id, out))
     }
@@ -325,14 +317,14 @@ impl Writer {
         ensures { Does result out.new (call self src.now (Command.ChangeVector id v) out.old) }
     {
         if text::outside(src, v) {
-            return Written::Refused(Refusal::BadPlace);
+            return Err(Refusal::BadPlace);
         }
         if id.0 == NO_ID {
-            return Written::Refused(Refusal::NotWritable);
+            return Err(Refusal::NotWritable);
         }
         let values = text::part(src, v);
         if !write_check::is_vector(values) {
-            return Written::Refused(Refusal::NotWritable);
+            return Err(Refusal::NotWritable);
         }
         self.laid(emit::emit_vector(values, id, out))
     }
@@ -342,14 +334,14 @@ impl Writer {
         ensures { Does result out.new (call self src.now (Command.ChangeReal id v) out.old) }
     {
         if text::outside(src, v) {
-            return Written::Refused(Refusal::BadPlace);
+            return Err(Refusal::BadPlace);
         }
         if id.0 == NO_ID {
-            return Written::Refused(Refusal::NotWritable);
+            return Err(Refusal::NotWritable);
         }
         let number = text::part(src, v);
         if !write_check::is_real(number) {
-            return Written::Refused(Refusal::NotWritable);
+            return Err(Refusal::NotWritable);
         }
         self.laid(emit::emit_text(b'r', number, id, out))
     }
@@ -359,14 +351,14 @@ impl Writer {
         ensures { Does result out.new (call self src.now (Command.ChangeString id v) out.old) }
     {
         if text::outside(src, v) {
-            return Written::Refused(Refusal::BadPlace);
+            return Err(Refusal::BadPlace);
         }
         if id.0 == NO_ID {
-            return Written::Refused(Refusal::NotWritable);
+            return Err(Refusal::NotWritable);
         }
         let string = text::part(src, v);
         if !write_check::is_name(string) {
-            return Written::Refused(Refusal::NotWritable);
+            return Err(Refusal::NotWritable);
         }
         self.laid(emit::emit_text(b's', string, id, out))
     }
@@ -377,7 +369,7 @@ impl Writer {
     {
         let k = c.spell();
         let name = k.bytes;
-        let w = self.with_open(Open::Of(c));
+        let w = self.with_open(Some(c));
         w.laid(emit::emit(b"$", text::front(&name, k.len), b"\n", b"", b"", out))
     }
 
@@ -387,9 +379,9 @@ impl Writer {
     {
         let sim = self.sim;
         if !names_open(sim, c) {
-            return Written::Refused(Refusal::NotWritable);
+            return Err(Refusal::NotWritable);
         }
-        let w = self.with_open(Open::None);
+        let w = self.with_open(None);
         w.laid(emit::emit(&command::END, b"\n", b"", b"", b"", out))
     }
 
@@ -398,7 +390,7 @@ impl Writer {
         ensures { Does result out.new (call self src.now c out.old) }
     {
         if text::LIMIT < src.len() {
-            return Written::Refused(Refusal::BadPlace);
+            return Err(Refusal::BadPlace);
         }
         match c {
             Command::Comment(t) => self.comment(src, t, out),

@@ -28,11 +28,8 @@ ghost use Rattle.write_calls.specs.Writing.{
 };
 
 use command::Refusal;
-use idcode::{IdCode, Parsed};
-use record::Recorded;
-use text::{Placed, Text};
-use vcd_state::{CursorRead, HeadRead, WriterRead};
-use widen::Widened;
+use idcode::IdCode;
+use text::Text;
 use write::Written;
 use write_header::HeaderWritten;
 
@@ -64,11 +61,11 @@ pub fn command(
         return BAD_PLACE;
     }
     match vcd_state::writer_of(writer) {
-        WriterRead::Is(w) => match record::record_at(words, 0) {
-            Recorded::Is(k) => wrote(w.command(src, k, out), writer, count),
-            Recorded::None => BAD_PLACE,
+        Some(w) => match record::record_at(words, 0) {
+            Some(k) => wrote(w.command(src, k, out), writer, count),
+            None => BAD_PLACE,
         },
-        WriterRead::Bad => BAD_PLACE,
+        None => BAD_PLACE,
     }
 }
 
@@ -80,12 +77,12 @@ fn wrote(r: Written, writer: &mut [u64], count: &mut u64) -> u64
     ensures count { count.new ≡ written_count count.old r }
 {
     match r {
-        Written::Bytes(n, v) => {
+        Ok((n, v)) => {
             vcd_state::put_writer(writer, v);
             *count = n as u64;
             OK
         }
-        Written::Refused(e) => e.number(),
+        Err(e) => e.number(),
     }
 }
 
@@ -104,15 +101,15 @@ pub fn write_header(
     ensures count { count.new ≡ (write_header_call writer.old src.now head.now rows.now out.old count.old).count }
 {
     match vcd_state::writer_of(writer) {
-        WriterRead::Is(w) => match vcd_state::head_of(head) {
-            HeadRead::Is(h, n) => wrote_header(
+        Some(w) => match vcd_state::head_of(head) {
+            Some((h, n)) => wrote_header(
                 write_header::header(w, src, h, rows, n, out),
                 writer,
                 count,
             ),
-            HeadRead::Bad => BAD_PLACE,
+            None => BAD_PLACE,
         },
-        WriterRead::Bad => BAD_PLACE,
+        None => BAD_PLACE,
     }
 }
 
@@ -124,12 +121,12 @@ fn wrote_header(r: HeaderWritten, writer: &mut [u64], count: &mut u64) -> u64
     ensures count { count.new ≡ head_count r }
 {
     match r {
-        HeaderWritten::Bytes(n, v) => {
+        Ok((n, v)) => {
             vcd_state::put_writer(writer, v);
             *count = n as u64;
             OK
         }
-        HeaderWritten::Refused(e, n, v) => {
+        Err((e, n, v)) => {
             vcd_state::put_writer(writer, v);
             *count = n as u64;
             e.number()
@@ -154,8 +151,8 @@ pub fn rewrite(
     ensures line { line.new ≡ (rewrite_call input.now cursor.old writer.old out.old count.old line.old).line }
 {
     match vcd_state::cursor_of(cursor) {
-        CursorRead::Is(c) => match vcd_state::writer_of(writer) {
-            WriterRead::Is(w) => {
+        Some(c) => match vcd_state::writer_of(writer) {
+            Some(w) => {
                 let a = rewrite::rewrite(input, c, w, out);
                 let d = a.cursor;
                 let v = a.writer;
@@ -165,9 +162,9 @@ pub fn rewrite(
                 *count = a.count as u64;
                 rewrite_status(ended, line)
             }
-            WriterRead::Bad => BAD_PLACE,
+            None => BAD_PLACE,
         },
-        CursorRead::Bad => BAD_PLACE,
+        None => BAD_PLACE,
     }
 }
 
@@ -176,8 +173,8 @@ fn rewrite_status(e: rewrite::Ended, line: &mut u64) -> u64
     ensures line { line.new ≡ line_after line.old e }
 {
     match e {
-        rewrite::Ended::Whole => OK,
-        rewrite::Ended::Refused(r, n) => {
+        Ok(()) => OK,
+        Err((r, n)) => {
             *line = n;
             r.number()
         }
@@ -198,11 +195,11 @@ pub fn widen(
     ensures count { count.new ≡ widen_count count.old (widen_answer input.now (record { start = start; len = len }) width out.old) }
 {
     match widen::widen(input, Text { start, len }, width, out) {
-        Widened::Bytes(n) => {
+        Ok(n) => {
             *count = n as u64;
             OK
         }
-        Widened::Refused(e) => e.number(),
+        Err(e) => e.number(),
     }
 }
 
@@ -216,11 +213,11 @@ pub fn id_text(code: u64, out: &mut [u8], count: &mut u64) -> u64
         return NOT_WRITABLE;
     }
     match IdCode(code).put(out) {
-        Placed::Count(n) => {
+        Some(n) => {
             *count = n as u64;
             OK
         }
-        Placed::NoRoom => NO_ROOM,
+        None => NO_ROOM,
     }
 }
 
@@ -230,10 +227,10 @@ pub fn id_code(text: &[u8], code: &mut u64) -> u64
     ensures code { code.new ≡ code_after code.old (parse_id text.now) }
 {
     match IdCode::from_str(text) {
-        Parsed::Code(i) => {
+        Ok(i) => {
             *code = i.0;
             OK
         }
-        Parsed::Refused(e) => Refusal::from_id(e).number(),
+        Err(e) => Refusal::from_id(e).number(),
     }
 }

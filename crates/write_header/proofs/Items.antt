@@ -1,4 +1,6 @@
 -- Row i is written, or variables from it on: what comes of their commands is what comes of the rows from it on.
+use Rattle.std.specs.Prelude.{Option, Result, Ok, Err}
+use Rattle.rows.specs.declared.RowNumber.{RowNumber}
 use Prim.Native.Nat.{ℕ, ◌+◌, ◌-◌, ◌≤◌, ◌<◌}
 use mathlib.Core.Path.{◌≡◌, refl, sym, ap, ◌∙◌}
 use mathlib.Core.Bool.{true, false, false≢true}
@@ -13,7 +15,6 @@ use Rattle.command.specs.declared.Refusal.{Refusal}
 use Rattle.rows.specs.Good.{is_good_from}
 use Rattle.header.specs.Header.{inner}
 use Rattle.rows.specs.Rows.{top, parent_of, row_at}
-use Rattle.rows.specs.declared.Parent.{Parent}
 use Rattle.rows.specs.declared.Row.{Row}
 use Rattle.scope.specs.declared.ScopeType.{ScopeType}
 use Rattle.scope.specs.declared.Var.{Var}
@@ -28,7 +29,6 @@ use Rattle.write_header.specs.Levels.{Where, Goes, Ends, WritesItem, WritesScope
 use Rattle.write_header.specs.Meanings.{var_meaning, row_meanings}
 use Rattle.write_header.specs.Pour.{pour, stop, Writes}
 use Rattle.write_header.specs.Written.{Outcome}
-use Rattle.write_header.specs.declared.Wrote.{Wrote}
 use Rattle.write_header.proofs.Rows.{here-scope, here-var, here-none, pop, scope-inner}
 
 module _ (s table : List ℕ) (n levels i : ℕ) (o : List ℕ) (at : ℕ) (w : Writer) (l : i < n) where
@@ -39,22 +39,22 @@ module _ (s table : List ℕ) (n levels i : ℕ) (o : List ℕ) (at : ℕ) (w : 
       → (is_good_from (i + 1) st (rest table n (i + 1)) ≡ true)
       × (row_meanings s i st (rest table n i) ≡ m ∷ row_meanings s (i + 1) st (rest table n (i + 1)))
 
-  pub leaf : (m : Meaning) → Leaf m → (r : Wrote) (left : List ℕ) → Writes o at w (m ∷ []) (i + 1) r left → WritesItem s table n levels i o at w r left
-  leaf m f (Wrote.Through j at' w') left x =
+  pub leaf : (m : Meaning) → Leaf m → (r : Result (ℕ × ℕ × Writer) (Refusal × ℕ × Writer)) (left : List ℕ) → Writes o at w (m ∷ []) (i + 1) r left → WritesItem s table n levels i o at w r left
+  leaf m f (Ok (j, at', w')) left x =
       rw x.0 (
         omega arith,
         omega arith,
         x.1,
         λ st h k g. let y = f st k g in (y.0, ap (pour o at w) y.1 ∙ x.2 (row_meanings s (i + 1) st (rest table n (i + 1)))),
       )
-  leaf m f (Wrote.Refused e at' w') left x =
+  leaf m f (Err (e, at', w')) left x =
       λ st h k g. ap (pour o at w) (f st k g).1 ∙ x (row_meanings s (i + 1) st (rest table n (i + 1)))
 
   pub no_row : row_at table i ≡ Row.None → (x : Outcome) → Ends s table n levels (parent_at table i) i o at w x
   no_row e x = λ st h k g. absurd (here-none s table n i st l k g e)
 
   -- row i is a scope
-  module _ {p : Parent} {k : ScopeType} {t : Text} (e : row_at table i ≡ Row.Scope p k t) where
+  module _ {p : Option RowNumber} {k : ScopeType} {t : Text} (e : row_at table i ≡ Row.Scope p k t) where
     pub no-level : levels ≡ 0 → (x : Outcome) → Ends s table n levels (parent_at table i) i o at w x
     no-level z x = λ st h q g. absurd (omega (arith, (here-scope s table n i st l q g e).0, h, z))
 
@@ -69,7 +69,7 @@ module _ (s table : List ℕ) (n levels i : ℕ) (o : List ℕ) (at : ℕ) (w : 
       first st q g = ap (pour o at w) (here-scope s table n i st l q g e).2 ∙ opens (row_meanings s (i + 1) (i ∷ st) (rest table n (i + 1)))
 
       -- the items are written, and the scope is closed next
-      passed : (i₂ at₂ : ℕ) (w₂ : Writer) (o₂ : List ℕ) → WritesScope s table n (levels - 1) i (i + 1) o₁ at₁ w₁ (Wrote.Through i₂ at₂ w₂) o₂
+      passed : (i₂ at₂ : ℕ) (w₂ : Writer) (o₂ : List ℕ) → WritesScope s table n (levels - 1) i (i + 1) o₁ at₁ w₁ (Ok (i₂, at₂, w₂)) o₂
           → Where table n levels (parent_at table i) i λ st.
           (is_good_from i₂ st (rest table n i₂) ≡ true)
           × (pour o at w (row_meanings s i st (rest table n i)) ≡ pour o₂ at₂ w₂ (upscope ∷ row_meanings s i₂ st (rest table n i₂)))
@@ -78,18 +78,18 @@ module _ (s table : List ℕ) (n levels i : ℕ) (o : List ℕ) (at : ℕ) (w : 
           let b = pop s table n i₂ st i y.1 y.3 a.0 in
           (b.0, first st q g ∙ a.1 ∙ ap (pour o₂ at₂ w₂) b.1)
 
-      pub nested : (x r : Wrote) (o₂ left : List ℕ) → WritesScope s table n (levels - 1) i (i + 1) o₁ at₁ w₁ x o₂ → Closes x o₂ r left
+      pub nested : (x r : Result (ℕ × ℕ × Writer) (Refusal × ℕ × Writer)) (o₂ left : List ℕ) → WritesScope s table n (levels - 1) i (i + 1) o₁ at₁ w₁ x o₂ → Closes x o₂ r left
           → WritesItem s table n levels i o at w r left
-      nested (Wrote.Through i₂ at₂ w₂) (Wrote.Through i₃ at₃ w₃) o₂ left y z =
+      nested (Ok (i₂, at₂, w₂)) (Ok (i₃, at₃, w₃)) o₂ left y z =
           rw z.0 (
             omega (arith, y.0),
             y.1,
             z.1,
             λ st h q g. let a = passed i₂ at₂ w₂ o₂ y st h q g in (a.0, a.1 ∙ z.2 (row_meanings s i₂ st (rest table n i₂))),
           )
-      nested (Wrote.Through i₂ at₂ w₂) (Wrote.Refused f at₃ w₃) o₂ left y z =
+      nested (Ok (i₂, at₂, w₂)) (Err (f, at₃, w₃)) o₂ left y z =
           λ st h q g. (passed i₂ at₂ w₂ o₂ y st h q g).1 ∙ z (row_meanings s i₂ st (rest table n i₂))
-      nested (Wrote.Refused f at₂ w₂) r o₂ left y z =
+      nested (Err (f, at₂, w₂)) r o₂ left y z =
           rw (z.0, z.1)
           (λ st h q g.
           first st q g ∙ y (i ∷ st) (omega (arith, h, some)) (scope-inner i st small) (here-scope s table n i st l q g e).1)
@@ -133,26 +133,26 @@ module _ (s table : List ℕ) (n from : ℕ) (o : List ℕ) (at : ℕ) (w : Writ
     its : (kind_of (row_at table i) ≡ 2) × (parent_at table i ≡ parent_at table from)
     its = let a = var-of table i me is in (a.0, a.1 ∙ m)
 
-    item : (r : Wrote) (left : List ℕ) → Writes o₁ at₁ w₁ (var_meaning s v ∷ []) (i + 1) r left
+    item : (r : Result (ℕ × ℕ × Writer) (Refusal × ℕ × Writer)) (left : List ℕ) → Writes o₁ at₁ w₁ (var_meaning s v ∷ []) (i + 1) r left
         → (levels : ℕ) → WritesItem s table n levels i o₁ at₁ w₁ r left
     item r left y levels =
         leaf s table n levels i o₁ at₁ w₁ l (var_meaning s (var_in (row_at table i)))
         (λ st k g. here-var s table n i st l k g (var-kind (row_at table i) its.0).1) r left (rw q at y)
 
-    pub one_more : (i₂ at₂ : ℕ) (w₂ : Writer) (left : List ℕ) → Writes o₁ at₁ w₁ (var_meaning s v ∷ []) (i + 1) (Wrote.Through i₂ at₂ w₂) left
+    pub one_more : (i₂ at₂ : ℕ) (w₂ : Writer) (left : List ℕ) → Writes o₁ at₁ w₁ (var_meaning s v ∷ []) (i + 1) (Ok (i₂, at₂, w₂)) left
         → Run i₂ left at₂ w₂
     one_more i₂ at₂ w₂ left y levels =
         goes_on s table n levels (parent_at table from) from o at w i o₁ at₁ w₁ (x levels) its.1 i₂ left at₂ w₂
-        (item (Wrote.Through i₂ at₂ w₂) left y levels).3
+        (item (Ok (i₂, at₂, w₂)) left y levels).3
 
-    pub no_more : (f : Refusal) (at₂ : ℕ) (w₂ : Writer) (left : List ℕ) → Writes o₁ at₁ w₁ (var_meaning s v ∷ []) (i + 1) (Wrote.Refused f at₂ w₂) left
+    pub no_more : (f : Refusal) (at₂ : ℕ) (w₂ : Writer) (left : List ℕ) → Writes o₁ at₁ w₁ (var_meaning s v ∷ []) (i + 1) (Err (f, at₂, w₂)) left
         → (levels : ℕ) → Ends s table n levels (parent_at table from) from o at w (stop f at₂ w₂ left)
     no_more f at₂ w₂ left y levels =
         goes-out s table n levels (parent_at table from) from o at w i o₁ at₁ w₁ (x levels) its.1 (stop f at₂ w₂ left)
-        (item (Wrote.Refused f at₂ w₂) left y levels)
+        (item (Err (f, at₂, w₂)) left y levels)
 
 -- where the items end lies in the output
-pub fits : (s table : List ℕ) (n levels me i : ℕ) (o : List ℕ) (at : ℕ) (w : Writer) (x : Wrote) (left : List ℕ)
+pub fits : (s table : List ℕ) (n levels me i : ℕ) (o : List ℕ) (at : ℕ) (w : Writer) (x : Result (ℕ × ℕ × Writer) (Refusal × ℕ × Writer)) (left : List ℕ)
     → WritesScope s table n levels me i o at w x left → Fits x (length left)
-fits s table n levels me i o at w (Wrote.Through i₁ at₁ w₁) left y = y.2
-fits s table n levels me i o at w (Wrote.Refused e at₁ w₁) left y = tt
+fits s table n levels me i o at w (Ok (i₁, at₁, w₁)) left y = y.2
+fits s table n levels me i o at w (Err (e, at₁, w₁)) left y = tt

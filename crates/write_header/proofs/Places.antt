@@ -1,4 +1,6 @@
 -- What 25 asks: no text of a header lies outside the source.
+use Rattle.std.specs.Prelude.{Option}
+use Rattle.rows.specs.declared.RowNumber.{RowNumber}
 use Prim.Native.Nat.{ℕ, ◌≤◌, ◌<◌}
 use mathlib.Core.Path.{◌≡◌, subst, ◌∙◌}
 use mathlib.Core.Bool.{false, not, ◌||◌}
@@ -9,7 +11,6 @@ use lib.ListN.{length}
 use Rattle.rows.specs.Rows.{row_at, rows_of}
 use Rattle.header.specs.declared.Header.{Header}
 use Rattle.rows.specs.declared.Row.{Row}
-use Rattle.rows.specs.declared.Parent.{Parent}
 use Rattle.scope.specs.declared.ScopeType.{ScopeType}
 use Rattle.scope.specs.declared.Var.{Var}
 use Rattle.text.specs.Texts.{limit, is_within, too_long, outside}
@@ -33,7 +34,7 @@ placed s t e h = outside-else s t (short s e) ∙ h
 
 -- ---- the commands of rows
 module _ (s table : List ℕ) (n i : ℕ) (x : Inside s table n) (l : i < n) where
-  pub scope-placed : {p : Parent} {k : ScopeType} {t : Text} → row_at table i ≡ Row.Scope p k t → outside s t ≡ false
+  pub scope-placed : {p : Option RowNumber} {k : ScopeType} {t : Text} → row_at table i ≡ Row.Scope p k t → outside s t ≡ false
   scope-placed {t = t} e = placed s t x.short (rw e at (x.placed i l))
 
   pub var-placed : {v : Var} → v ≡ var_in (row_at table i) → kind_of (row_at table i) ≡ 2 → outside s v.reference ≡ false
@@ -42,7 +43,7 @@ module _ (s table : List ℕ) (n i : ℕ) (x : Inside s table n) (l : i < n) whe
       (placed s (var_in (row_at table i)).reference x.short
       (subst (λ (r : Row). row_outside s r ≡ false) (var-kind (row_at table i) e).1 (x.placed i l)))
 
-  pub comment-placed : {p : Parent} {t : Text} → row_at table i ≡ Row.Comment p t → outside s t ≡ false
+  pub comment-placed : {p : Option RowNumber} {t : Text} → row_at table i ≡ Row.Comment p t → outside s t ≡ false
   comment-placed {t = t} e = placed s t x.short (rw e at (x.placed i l))
 
 -- nothing is misplaced

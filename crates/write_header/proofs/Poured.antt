@@ -1,4 +1,5 @@
 -- Commands written one after the other: one of them, and what comes of all.
+use Rattle.std.specs.Prelude.{Result, Ok, Err}
 use Prim.Native.Nat.{ℕ, suc, ◌+◌, ◌-◌, ◌≤◌}
 use mathlib.Core.Path.{◌≡◌, sym, ap, ◌∙◌}
 use mathlib.Core.Bool.{true, false, cond}
@@ -19,12 +20,9 @@ use Rattle.write.specs.Layout.{layout, writable, state_after}
 use Rattle.emit.specs.Put.{stored}
 use Rattle.write.specs.Run.{layouts, states_after, taken}
 use Rattle.write.specs.declared.Writer.{Writer}
-use Rattle.write.specs.declared.Written.{Written}
 use Rattle.emit.proofs.Storing.{stored-none, stored-length, stored_next}
 use Rattle.write_header.specs.Pour.{stop, pour, Writes}
 use Rattle.write_header.specs.Written.{Outcome, stopped, poured}
-use Rattle.write_header.specs.declared.HeaderWritten.{HeaderWritten}
-use Rattle.write_header.specs.declared.Wrote.{Wrote}
 
 -- ---- one command
 module _ (o : List ℕ) (at : ℕ) (w : Writer) (m : Meaning) (ms : List Meaning) where
@@ -53,18 +51,18 @@ module _ (o : List ℕ) (at : ℕ) (w : Writer) (s : List ℕ) (k : Command) (p 
   kept-end : at ≤ length o → (l : List ℕ) → l ++ drop (length o - at) (drop at o) ≡ l
   kept-end h l = rw (drop_of_length-le (drop at o) {i = length o - at} (omega (arith, length-drop at o)), append-nil l)
 
-  bad : writable w it ≡ false → call w s k (drop at o) ≡ record { answer = Written.Refused Refusal.NotWritable; left = drop at o }
+  bad : writable w it ≡ false → call w s k (drop at o) ≡ record { answer = Err Refusal.NotWritable; left = drop at o }
   unfolding call outcome
   bad e = rw (p, e)
 
   full : writable w it ≡ true → leb (length (layout it)) (length o - at) ≡ false
-      → call w s k (drop at o) ≡ record { answer = Written.Refused Refusal.NoRoom; left = drop at o }
+      → call w s k (drop at o) ≡ record { answer = Err Refusal.NoRoom; left = drop at o }
   unfolding call outcome put_answer put_bytes
   full e f = rw (p, e, left-room, f)
 
   on : writable w it ≡ true → leb (length (layout it)) (length o - at) ≡ true
       → call w s k (drop at o)
-      ≡ record { answer = Written.Bytes (length (layout it)) (state_after w it); left = layout it ++ drop (length (layout it)) (drop at o) }
+      ≡ record { answer = Ok (length (layout it), state_after w it); left = layout it ++ drop (length (layout it)) (drop at o) }
   unfolding call outcome put_answer put_bytes
   on e f = rw (p, e, left-room, f)
 
@@ -77,12 +75,12 @@ module _ (o : List ℕ) (at : ℕ) (w : Writer) (s : List ℕ) (k : Command) (p 
 
   module _ (h : at ≤ length o) where
     -- what an answer tells of the rest
-    abbrev Told : List ℕ → Written → Type 0
-    Told left (Written.Bytes n v) =
+    abbrev Told : List ℕ → Result (ℕ × Writer) Refusal → Type 0
+    Told left (Ok (n, v)) =
         (at + n ≤ length o) × (at + n ≤ length left) × ((more : List Meaning) → pour o at w (it ∷ more) ≡ pour left (at + n) v more)
-    Told left (Written.Refused e) = (more : List Meaning) → pour o at w (it ∷ more) ≡ stop e at w left
+    Told left (Err e) = (more : List Meaning) → pour o at w (it ∷ more) ≡ stop e at w left
 
-    pub told : {l left : List ℕ} {r : Written} → left ≡ take at o ++ (l ++ drop (length o - at) (drop at o))
+    pub told : {l left : List ℕ} {r : Result (ℕ × Writer) Refusal} → left ≡ take at o ++ (l ++ drop (length o - at) (drop at o))
         → Does r l (call w s k (take (length o - at) (drop at o))) → Told left r
     told {l} {left} {r} q x =
         let d = rw (take_rest o at) at x in
@@ -91,28 +89,28 @@ module _ (o : List ℕ) (at : ℕ) (w : Writer) (s : List ℕ) (k : Command) (p 
         by-test (leb (length (layout it)) (length o - at))
         (λ f.
         let x = on e f in
-        let a : r ≡ Written.Bytes (length (layout it)) (state_after w it) = d.answers ∙ rw x in
+        let a : r ≡ Ok (length (layout it), state_after w it) = d.answers ∙ rw x in
         let b : left ≡ stored o at (layout it) = q ∙ (rw (d.leaves, x) (laid h)) in
         let n : at + length (layout it) ≤ length o = omega (arith, leb-true (length (layout it)) (length o - at) f) in
         rw (a, b) (n, rw (stored-length o at (layout it) n) n, λ more. pour-on o at w it more e f))
         (λ f.
         let x = full e f in
-        let a : r ≡ Written.Refused Refusal.NoRoom = d.answers ∙ rw x in
+        let a : r ≡ Err Refusal.NoRoom = d.answers ∙ rw x in
         let b : left ≡ o = q ∙ (rw (d.leaves, x) (kept h)) in
         rw (a, b) (λ more. pour-full o at w it more e f)))
         (λ e.
         let x = bad e in
-        let a : r ≡ Written.Refused Refusal.NotWritable = d.answers ∙ rw x in
+        let a : r ≡ Err Refusal.NotWritable = d.answers ∙ rw x in
         let b : left ≡ o = q ∙ (rw (d.leaves, x) (kept h)) in
         rw (a, b) (λ more. pour-bad o at w it more e))
 
 -- ---- more after what is written
 module _ (o : List ℕ) (at : ℕ) (w : Writer) (o' : List ℕ) (at' : ℕ) (w' : Writer) (a b : List Meaning) where
-  pub then-writes : ((more : List Meaning) → pour o at w (a ++ more) ≡ pour o' at' w' more) → (row : ℕ) (r : Wrote) (left : List ℕ)
+  pub then-writes : ((more : List Meaning) → pour o at w (a ++ more) ≡ pour o' at' w' more) → (row : ℕ) (r : Result (ℕ × ℕ × Writer) (Refusal × ℕ × Writer)) (left : List ℕ)
       → Writes o' at' w' b row r left → Writes o at w (a ++ b) row r left
-  then-writes f row (Wrote.Through i at'' v) left x =
+  then-writes f row (Ok (i, at'', v)) left x =
       (x.0, x.1, λ more. ap (pour o at w) (append_assoc a b more) ∙ f (b ++ more) ∙ x.2 more)
-  then-writes f row (Wrote.Refused e at'' v) left x = λ more. ap (pour o at w) (append_assoc a b more) ∙ f (b ++ more) ∙ x more
+  then-writes f row (Err (e, at'', v)) left x = λ more. ap (pour o at w) (append_assoc a b more) ∙ f (b ++ more) ∙ x more
 
 pub then-stops : (o : List ℕ) (at : ℕ) (w : Writer) {x : Outcome} (a b : List Meaning) → ((more : List Meaning) → pour o at w (a ++ more) ≡ x)
     → (more : List Meaning) → pour o at w ((a ++ b) ++ more) ≡ x
@@ -124,8 +122,8 @@ Closed o at w all l =
     record {
       answer =
           cond (eqb (length l) (length all))
-          (HeaderWritten.Bytes (at + length (layouts l)) (states_after w l))
-          (HeaderWritten.Refused (stopped w (length o - at) all) (at + length (layouts l)) (states_after w l));
+          (Ok (at + length (layouts l), states_after w l))
+          (Err (stopped w (length o - at) all, at + length (layouts l), states_after w l));
       left = stored o at (layouts l);
     }
 

@@ -2,6 +2,8 @@
 --     here-scope, here-var, here-comment    row i stands in the innermost open scope: its command, and then the rows after it
 --     pop                                   row i stands further out, or there is none: the innermost scope is closed
 --     top-end                               no scope is open, and no row is left
+use Rattle.std.specs.Prelude.{Option, Some, None}
+use Rattle.rows.specs.declared.RowNumber.{RowNumber}
 use Prim.Native.Nat.{ℕ, suc, ◌+◌, ◌-◌, ◌≤◌, ◌<◌}
 use mathlib.Core.Path.{◌≡◌, refl, sym, ap, ◌∙◌}
 use mathlib.Core.Bool.{Bool, true, false, cond, ◌&&◌, false≢true}
@@ -16,7 +18,6 @@ use Rattle.command.specs.Meaning.{comment, remark, scope_def, upscope, enddefini
 use Rattle.rows.specs.Good.{is_parent, open_to, is_good_from, is_good_table}
 use Rattle.header.specs.Header.{inner}
 use Rattle.rows.specs.Rows.{top, parent_word, parent_of, row_at, rows_of}
-use Rattle.rows.specs.declared.Parent.{Parent}
 use Rattle.rows.specs.declared.Row.{Row}
 use Rattle.scope.specs.declared.ScopeType.{ScopeType}
 use Rattle.scope.specs.declared.Var.{Var}
@@ -34,26 +35,26 @@ unfolding open_to
 open-inner [] = refl
 open-inner (n ∷ st) = rw (eq-eqb n n refl)
 
-parent-other : (p : Parent) (n : ℕ) (st : List ℕ) → (parent_word p ≡ n → ⊥) → is_parent p (n ∷ st) ≡ is_parent p st
+parent-other : (p : Option RowNumber) (n : ℕ) (st : List ℕ) → (parent_word p ≡ n → ⊥) → is_parent p (n ∷ st) ≡ is_parent p st
 unfolding is_parent
-parent-other Parent.Top n st h = refl
-parent-other (Parent.Of q) n st h = rw (ne_eqb q.0 n h)
+parent-other None n st h = refl
+parent-other (Some q) n st h = rw (ne_eqb q.0 n h)
 
 open-cond : (t : Bool) (a b : List ℕ) (k : ℕ) → length a ≤ k → length b ≤ k → length (cond t a b) ≤ k
 open-cond true a b k h l = h
 open-cond false a b k h l = l
 
-open-length : (p : Parent) (st : List ℕ) → length (open_to p st) ≤ length st
+open-length : (p : Option RowNumber) (st : List ℕ) → length (open_to p st) ≤ length st
 unfolding open_to
-open-length Parent.Top st = omega arith
-open-length (Parent.Of q) [] = omega arith
-open-length (Parent.Of q) (n ∷ st) =
-    let h = open-length (Parent.Of q) st in open-cond (eqb q.0 n) (n ∷ st) (open_to (Parent.Of q) st) (suc (length st)) (omega arith) (omega arith)
+open-length None st = omega arith
+open-length (Some q) [] = omega arith
+open-length (Some q) (n ∷ st) =
+    let h = open-length (Some q) st in open-cond (eqb q.0 n) (n ∷ st) (open_to (Some q) st) (suc (length st)) (omega arith) (omega arith)
 
 up_none : (st : List ℕ) → upscopes st st ≡ []
 up_none st = rw (sub_self (length st))
 
-up_one : (n : ℕ) (st : List ℕ) (p : Parent) → (parent_word p ≡ n → ⊥)
+up_one : (n : ℕ) (st : List ℕ) (p : Option RowNumber) → (parent_word p ≡ n → ⊥)
     → upscopes (n ∷ st) (open_to p (n ∷ st)) ≡ upscope ∷ upscopes st (open_to p st)
 up_one n st p h =
     let l = open-length p st in
@@ -94,14 +95,14 @@ module _ (s table : List ℕ) (n i : ℕ) (st : List ℕ) where
 
   -- ---- a row whose parent is the innermost open scope
   module _ (l : i < n) (me : inner st ≡ parent_of (parent_at table i)) (g : is_good_from i st (rest table n i) ≡ true) where
-    same : {p : Parent} → parent_of (parent_at table i) ≡ p → open_to p st ≡ st
-    same e = ap (λ (q : Parent). open_to q st) (sym (me ∙ e)) ∙ open-inner st
+    same : {p : Option RowNumber} → parent_of (parent_at table i) ≡ p → open_to p st ≡ st
+    same e = ap (λ (q : Option RowNumber). open_to q st) (sym (me ∙ e)) ∙ open-inner st
 
     -- what is good of a row r is good of row i
     of_row : {r : Row} → row_at table i ≡ r → is_good_from i st (r ∷ rest table n (i + 1)) ≡ true
     of_row e = sym (rw (rest-cons table n i l, e)) ∙ g
 
-    pub here-scope : {p : Parent} {k : ScopeType} {t : Text} → row_at table i ≡ Row.Scope p k t
+    pub here-scope : {p : Option RowNumber} {k : ScopeType} {t : Text} → row_at table i ≡ Row.Scope p k t
         → (length st < 64) × (is_good_from (i + 1) (i ∷ st) (rest table n (i + 1)) ≡ true)
         × (row_meanings s i st (rest table n i) ≡ scope_def k (part s t) ∷ row_meanings s (i + 1) (i ∷ st) (rest table n (i + 1)))
     unfolding is_good_from row_meanings
@@ -113,7 +114,7 @@ module _ (s table : List ℕ) (n i : ℕ) (st : List ℕ) where
           rw (rest-cons table n i l, e, o, up_none st),
         )
 
-    pub here-var : {p : Parent} {v : Var} → row_at table i ≡ Row.Var p v
+    pub here-var : {p : Option RowNumber} {v : Var} → row_at table i ≡ Row.Var p v
         → (is_good_from (i + 1) st (rest table n (i + 1)) ≡ true)
         × (row_meanings s i st (rest table n i) ≡ var_meaning s v ∷ row_meanings s (i + 1) st (rest table n (i + 1)))
     unfolding is_good_from row_meanings
@@ -123,7 +124,7 @@ module _ (s table : List ℕ) (n i : ℕ) (st : List ℕ) where
           rw (rest-cons table n i l, e, o, up_none st),
         )
 
-    pub here-comment : {p : Parent} {t : Text} → row_at table i ≡ Row.Comment p t
+    pub here-comment : {p : Option RowNumber} {t : Text} → row_at table i ≡ Row.Comment p t
         → (is_good_from (i + 1) st (rest table n (i + 1)) ≡ true)
         × (row_meanings s i st (rest table n i) ≡ remark comment (part s t) ∷ row_meanings s (i + 1) st (rest table n (i + 1)))
     unfolding is_good_from row_meanings
@@ -138,10 +139,10 @@ module _ (s table : List ℕ) (n i : ℕ) (st : List ℕ) where
     here-none e = false≢true (of_row e)
 
 -- ---- the whole table, and its end
-top-parent : (p : Parent) → is_parent p [] ≡ true → parent_word p ≡ top
+top-parent : (p : Option RowNumber) → is_parent p [] ≡ true → parent_word p ≡ top
 unfolding is_parent
-top-parent Parent.Top e = refl
-top-parent (Parent.Of q) e = absurd (false≢true e)
+top-parent None e = refl
+top-parent (Some q) e = absurd (false≢true e)
 
 good-top : (r : Row) (rs : List Row) (i : ℕ) → is_good_from i [] (r ∷ rs) ≡ true → parent_in r ≡ top
 unfolding is_good_from

@@ -2,6 +2,9 @@
 --     header-takes   their layouts are the bytes, and the answer tells how many, and the state after them
 --     header-all     where the answer is `Bytes`, they are all
 --     sized-header   the numbers of a header's commands are of their types
+use Rattle.std.specs.Prelude.{Option, Some, None, Result, Ok, Err}
+use Rattle.timescale.specs.declared.TimescaleUnit.{TimescaleUnit}
+use Rattle.text.specs.declared.Text.{Text}
 use Prim.Native.Nat.{ℕ, zero, suc, ◌+◌, ◌-◌, ◌*◌, ◌/◌, ◌^◌, ◌<◌}
 use mathlib.Core.Path.{◌≡◌, refl, ap}
 use mathlib.Core.Bool.{Bool, true, false, cond, not, ◌&&◌, ◌||◌}
@@ -17,8 +20,6 @@ use Rattle.command.specs.declared.Refusal.{Refusal}
 use Rattle.rows.specs.Good.{is_good_table, open_to}
 use Rattle.rows.specs.Rows.{signed_of, is_index, index_of, words_at, row_at, rows_from, rows_of}
 use Rattle.header.specs.declared.Header.{Header}
-use Rattle.header.specs.declared.KeptText.{KeptText}
-use Rattle.header.specs.declared.KeptTimescale.{KeptTimescale}
 use Rattle.rows.specs.declared.Row.{Row}
 use Rattle.text.specs.Texts.{part}
 use Rattle.text.proofs.Each.{Each}
@@ -29,17 +30,16 @@ use Rattle.write.specs.Run.{layouts, states_after, taken, Sized, AllSized}
 use Rattle.write.specs.declared.Writer.{Writer}
 use Rattle.write_header.specs.Meanings.{remark_of, timescale_of, var_meaning, row_meanings, header_meanings}
 use Rattle.write_header.specs.Written.{Outcome, poured, misplaced, header_call}
-use Rattle.write_header.specs.declared.HeaderWritten.{HeaderWritten}
 use Rattle.rows.proofs.Peeking.{row-cases}
 
 -- ---- the accepted commands
-abbrev pub count_of : HeaderWritten → ℕ
-count_of (HeaderWritten.Bytes n v) = n
-count_of (HeaderWritten.Refused e n v) = n
+abbrev pub count_of : Result (ℕ × Writer) (Refusal × ℕ × Writer) → ℕ
+count_of (Ok (n, v)) = n
+count_of (Err (e, n, v)) = n
 
-abbrev pub state_of : HeaderWritten → Writer
-state_of (HeaderWritten.Bytes n v) = v
-state_of (HeaderWritten.Refused e n v) = v
+abbrev pub state_of : Result (ℕ × Writer) (Refusal × ℕ × Writer) → Writer
+state_of (Ok (n, v)) = v
+state_of (Err (e, n, v)) = v
 
 -- the outcome x of a call with the state w and the output o: the commands l were written, and nothing else
 pub record Takes (w : Writer) (o : List ℕ) (l : List Meaning) (x : Outcome) : Type 0 where
@@ -54,7 +54,7 @@ refused s h table n = misplaced s h (rows_of table n) || not (is_good_table (row
 abbrev pub accepted : Writer → List ℕ → Header → List ℕ → ℕ → List ℕ → List Meaning
 accepted w s h table n o = cond (refused s h table n) [] (taken w (length o) (header_meanings s h (rows_of table n)))
 
-none-taken : (w : Writer) (o : List ℕ) (e : Refusal) → Takes w o [] (record { answer = HeaderWritten.Refused e 0 w; left = o })
+none-taken : (w : Writer) (o : List ℕ) (e : Refusal) → Takes w o [] (record { answer = Err (e, 0, w); left = o })
 unfolding layouts states_after
 none-taken w o e = record { counts = refl; state = refl; leaves = refl }
 
@@ -90,13 +90,13 @@ taken-whole w room (m ∷ ms) e =
     go false f q = absurd (omega (arith, q))
 
 poured-whole : (w : Writer) (ms l : List Meaning) (o : List ℕ) (k : ℕ) (v : Writer)
-    → (poured w ms l o).answer ≡ HeaderWritten.Bytes k v → length l ≡ length ms
+    → (poured w ms l o).answer ≡ Ok (k, v) → length l ≡ length ms
 poured-whole w ms l o k v e =
     by-test (eqb (length l) (length ms)) (eqb-true (length l) (length ms))
     (λ q. absurd (let f = rw q at e in let z : ◌≡◌ {A = ℕ} 0 1 = cc in omega arith))
 
 module _ (w : Writer) (s : List ℕ) (h : Header) (table : List ℕ) (n : ℕ) (o : List ℕ) where
-  pub header-all : (k : ℕ) (v : Writer) → (header_call w s h table n o).answer ≡ HeaderWritten.Bytes k v
+  pub header-all : (k : ℕ) (v : Writer) → (header_call w s h table n o).answer ≡ Ok (k, v)
       → accepted w s h table n o ≡ header_meanings s h (rows_of table n)
   unfolding header_call
   header-all k v a =
@@ -114,9 +114,9 @@ module _ (w : Writer) (s : List ℕ) (h : Header) (table : List ℕ) (n : ℕ) (
 abbrev pub AreWords : List ℕ → Type 0
 AreWords table = Each (λ w. w < 2 ^ 64) table
 
-abbrev pub KeptSized : KeptTimescale → Type 0
-KeptSized KeptTimescale.None = Unit {0}
-KeptSized (KeptTimescale.Is n u) = n < 2 ^ 32
+abbrev pub KeptSized : Option (ℕ × TimescaleUnit) → Type 0
+KeptSized None = Unit {0}
+KeptSized (Some (n, u)) = n < 2 ^ 32
 
 pub word_at : (table : List ℕ) (j : ℕ) → AreWords table → get_or table j 0 < 2 ^ 64
 word_at [] j x = omega arith
@@ -180,13 +180,13 @@ unfolding row_meanings rows_from
 sized_rows s table x i zero j st = sized-up (length st - 0) enddefinitions [] tt tt
 sized_rows s table x i (suc k) j st = sized-next s j st (row_at table i) (rows_from table (i + 1) k) (sized_row table i x) (sized_rows s table x (i + 1) k)
 
-sized-remark : (k : Remark) (s : List ℕ) (t : KeptText) → AllSized (remark_of k s t)
-sized-remark k s KeptText.None = tt
-sized-remark k s (KeptText.Is t) = (tt, tt)
+sized-remark : (k : Remark) (s : List ℕ) (t : Option Text) → AllSized (remark_of k s t)
+sized-remark k s None = tt
+sized-remark k s (Some t) = (tt, tt)
 
-sized-scale : (t : KeptTimescale) → KeptSized t → AllSized (timescale_of t)
-sized-scale KeptTimescale.None x = tt
-sized-scale (KeptTimescale.Is n u) x = (x, tt)
+sized-scale : (t : Option (ℕ × TimescaleUnit)) → KeptSized t → AllSized (timescale_of t)
+sized-scale None x = tt
+sized-scale (Some (n, u)) x = (x, tt)
 
 pub sized-header : (s : List ℕ) (h : Header) (table : List ℕ) (n : ℕ) → AreWords table → KeptSized h.timescale
     → AllSized (header_meanings s h (rows_of table n))

@@ -1,5 +1,6 @@
 -- What the private functions that write rows promise: the rest of the writing, from where they stop, gives the same outcome.
-use Rattle.std.specs.Prelude.{ℕ, ◌+◌, ◌≤◌, ◌<◌, ◌≡◌, true, false, List, [], ◌∷◌, length}
+use Rattle.command.specs.declared.Refusal.{Refusal}
+use Rattle.std.specs.Prelude.{ℕ, ◌+◌, ◌≤◌, ◌<◌, ◌≡◌, true, false, List, [], ◌∷◌, length, Result, Ok, Err}
 use Rattle.scope.specs.Limits.{most_levels}
 use Rattle.command.specs.Meaning.{upscope}
 use Rattle.rows.specs.Good.{is_good_from}
@@ -12,7 +13,6 @@ use Rattle.tree.specs.Place.{row_outside}
 use Rattle.write_header.specs.Meanings.{row_meanings}
 use Rattle.write_header.specs.Pour.{pour, stop, Writes}
 use Rattle.write_header.specs.Written.{Outcome}
-use Rattle.write_header.specs.declared.Wrote.{Wrote}
 
 -- no text is misplaced
 pub record Inside (s table : List ℕ) (n : ℕ) : Type 0 where
@@ -36,24 +36,24 @@ abbrev pub Ends : List ℕ → List ℕ → ℕ → ℕ → ℕ → ℕ → List
 Ends s table n levels me i o at w x = Where table n levels me i λ st. pour o at w (row_meanings s i st (rest table n i)) ≡ x
 
 -- row i, an item of its scope
-abbrev pub WritesItem : List ℕ → List ℕ → ℕ → ℕ → ℕ → List ℕ → ℕ → Writer → Wrote → List ℕ → Type 0
-WritesItem s table n levels i o at w (Wrote.Through i' at' w') o' =
+abbrev pub WritesItem : List ℕ → List ℕ → ℕ → ℕ → ℕ → List ℕ → ℕ → Writer → Result (ℕ × ℕ × Writer) (Refusal × ℕ × Writer) → List ℕ → Type 0
+WritesItem s table n levels i o at w (Ok (i', at', w')) o' =
     (i < i') × (i' ≤ n) × (at' ≤ length o') × Goes s table n levels (parent_at table i) i o at w i' o' at' w'
-WritesItem s table n levels i o at w (Wrote.Refused e at' w') o' =
+WritesItem s table n levels i o at w (Err (e, at', w')) o' =
     Ends s table n levels (parent_at table i) i o at w (stop e at' w' o')
 
 -- the items of the scope `me` from row i on
-abbrev pub WritesScope : List ℕ → List ℕ → ℕ → ℕ → ℕ → ℕ → List ℕ → ℕ → Writer → Wrote → List ℕ → Type 0
-WritesScope s table n levels me i o at w (Wrote.Through i' at' w') o' =
+abbrev pub WritesScope : List ℕ → List ℕ → ℕ → ℕ → ℕ → ℕ → List ℕ → ℕ → Writer → Result (ℕ × ℕ × Writer) (Refusal × ℕ × Writer) → List ℕ → Type 0
+WritesScope s table n levels me i o at w (Ok (i', at', w')) o' =
     (i ≤ i') × (i' ≤ n) × (at' ≤ length o') × (i' < n → parent_at table i' ≡ me → ⊥) × Goes s table n levels me i o at w i' o' at' w'
-WritesScope s table n levels me i o at w (Wrote.Refused e at' w') o' = Ends s table n levels me i o at w (stop e at' w' o')
+WritesScope s table n levels me i o at w (Err (e, at', w')) o' = Ends s table n levels me i o at w (stop e at' w' o')
 
 -- a scope's items were written, and then the `$upscope` after them; or they were not
-abbrev pub Closes : Wrote → List ℕ → Wrote → List ℕ → Type 0
-Closes (Wrote.Through i at w) o r o' = Writes o at w (upscope ∷ []) i r o'
-Closes (Wrote.Refused e at w) o r o' = (r ≡ Wrote.Refused e at w) × (o' ≡ o)
+abbrev pub Closes : Result (ℕ × ℕ × Writer) (Refusal × ℕ × Writer) → List ℕ → Result (ℕ × ℕ × Writer) (Refusal × ℕ × Writer) → List ℕ → Type 0
+Closes (Ok (i, at, w)) o r o' = Writes o at w (upscope ∷ []) i r o'
+Closes (Err (e, at, w)) o r o' = (r ≡ Err (e, at, w)) × (o' ≡ o)
 
 -- the place that they end at lies in an output of n bytes
-abbrev pub Fits : Wrote → ℕ → Type 0
-Fits (Wrote.Through i at w) n = at ≤ n
-Fits (Wrote.Refused e at w) n = Unit {0}
+abbrev pub Fits : Result (ℕ × ℕ × Writer) (Refusal × ℕ × Writer) → ℕ → Type 0
+Fits (Ok (i, at, w)) n = at ≤ n
+Fits (Err (e, at, w)) n = Unit {0}

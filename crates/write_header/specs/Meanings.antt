@@ -1,22 +1,22 @@
 -- The commands that a header amounts to: date, version and timescale where present, the rows with the upscopes between them, the
 -- upscopes that are left, and the end of the definitions.
-use Rattle.std.specs.Prelude.{ℕ, ◌+◌, ◌-◌, List, [], ◌∷◌, ◌++◌, length, replicate}
+use Rattle.timescale.specs.declared.TimescaleUnit.{TimescaleUnit}
+use Rattle.text.specs.declared.Text.{Text}
+use Rattle.std.specs.Prelude.{ℕ, ◌+◌, ◌-◌, List, [], ◌∷◌, ◌++◌, length, replicate, Option, Some, None}
 use Rattle.command.specs.Meaning.{Meaning, Remark, comment, date, version, remark, timescale, scope_def, upscope, var_def, enddefinitions}
 use Rattle.scope.specs.declared.Var.{Var}
 use Rattle.text.specs.Texts.{part}
 use Rattle.rows.specs.Good.{open_to}
 use Rattle.header.specs.declared.Header.{Header}
-use Rattle.header.specs.declared.KeptText.{KeptText}
-use Rattle.header.specs.declared.KeptTimescale.{KeptTimescale}
 use Rattle.rows.specs.declared.Row.{Row}
 
-abbrev pub remark_of : Remark → List ℕ → KeptText → List Meaning
-remark_of k s KeptText.None = []
-remark_of k s (KeptText.Is t) = remark k (part s t) ∷ []
+abbrev pub remark_of : Remark → List ℕ → Option Text → List Meaning
+remark_of k s None = []
+remark_of k s (Some t) = remark k (part s t) ∷ []
 
-abbrev pub timescale_of : KeptTimescale → List Meaning
-timescale_of KeptTimescale.None = []
-timescale_of (KeptTimescale.Is n u) = timescale n u ∷ []
+abbrev pub timescale_of : Option (ℕ × TimescaleUnit) → List Meaning
+timescale_of None = []
+timescale_of (Some (n, u)) = timescale n u ∷ []
 
 -- the upscopes from these open scopes to those
 abbrev pub upscopes : List ℕ → List ℕ → List Meaning

@@ -1,24 +1,23 @@
 -- Writing a header: what is answered, and the output then.
-use Rattle.std.specs.Prelude.{ℕ, ◌-◌, ◌≡◌, Bool, false, cond, not, ◌||◌, List, [], ◌∷◌, ◌++◌, leb, eqb, length, drop}
+use Rattle.text.specs.declared.Text.{Text}
+use Rattle.std.specs.Prelude.{ℕ, ◌-◌, ◌≡◌, Bool, false, cond, not, ◌||◌, List, [], ◌∷◌, ◌++◌, leb, eqb, length, drop, Option, Some, None, Result, Ok, Err}
 use Rattle.command.specs.Meaning.{Meaning}
 use Rattle.command.specs.declared.Refusal.{Refusal}
 use Rattle.text.specs.Texts.{is_within, too_long}
 use Rattle.rows.specs.Good.{is_good_table}
 use Rattle.rows.specs.Rows.{rows_of}
 use Rattle.header.specs.declared.Header.{Header}
-use Rattle.header.specs.declared.KeptText.{KeptText}
 use Rattle.rows.specs.declared.Row.{Row}
 use Rattle.write.specs.Layout.{layout, writable, state_after}
 use Rattle.write.specs.Run.{layouts, states_after, taken}
 use Rattle.write.specs.declared.Writer.{Writer}
 use Rattle.tree.specs.Place.{some_outside}
 use Rattle.write_header.specs.Meanings.{header_meanings}
-use Rattle.write_header.specs.declared.HeaderWritten.{HeaderWritten}
 
 -- ---- 25
-abbrev pub kept_outside : List ℕ → KeptText → Bool
-kept_outside s KeptText.None = false
-kept_outside s (KeptText.Is t) = not (is_within s t)
+abbrev pub kept_outside : List ℕ → Option Text → Bool
+kept_outside s None = false
+kept_outside s (Some t) = not (is_within s t)
 
 unfoldable pub misplaced : List ℕ → Header → List Row → Bool
 misplaced s h rs = too_long s || kept_outside s h.date || kept_outside s h.version || some_outside s rs
@@ -33,7 +32,7 @@ stopped w room (m ∷ ms) =
     Refusal.NotWritable
 
 pub record Outcome : Type 0 where
-  pub answer : HeaderWritten
+  pub answer : Result (ℕ × Writer) (Refusal × ℕ × Writer)
   pub left : List ℕ
 
 -- those that were written, of all: they stand in the output and are in the state
@@ -44,13 +43,13 @@ poured w all l o =
     record {
       answer =
           cond (eqb (length l) (length all))
-          (HeaderWritten.Bytes (length b) v)
-          (HeaderWritten.Refused (stopped w (length o) all) (length b) v);
+          (Ok (length b, v))
+          (Err (stopped w (length o) all, length b, v));
       left = b ++ drop (length b) o;
     }
 
 abbrev pub refusal : Refusal → Writer → List ℕ → Outcome
-refusal e w o = record { answer = HeaderWritten.Refused e 0 w; left = o }
+refusal e w o = record { answer = Err (e, 0, w); left = o }
 
 -- the first n rows of a table as a header
 unfoldable pub header_call : Writer → List ℕ → Header → List ℕ → ℕ → List ℕ → Outcome
@@ -62,6 +61,6 @@ header_call w s h table n o =
     (refusal Refusal.BadTable w o))
 
 -- the answer r and the output o are those of the outcome x
-pub record Does (r : HeaderWritten) (o : List ℕ) (x : Outcome) : Type 0 where
+pub record Does (r : Result (ℕ × Writer) (Refusal × ℕ × Writer)) (o : List ℕ) (x : Outcome) : Type 0 where
   pub answers : r ≡ x.answer
   pub leaves : o ≡ x.left

@@ -16,24 +16,18 @@ ghost use Rattle.write_header.specs.Pour.{pour, Writes};
 ghost use Rattle.write_header.specs.Written.{header_call, kept_outside, Does};
 
 use command::{Command, Refusal};
-use header::{Header, KeptText, KeptTimescale};
+use header::Header;
 use rows::Row;
 use scope::Var;
+use text::Text;
+use timescale::TimescaleUnit;
 use write::{Writer, Written};
 
 // How a header was written: the bytes and the state then; or why it stopped, after so many bytes and at which state.
-#[derive(Clone, Copy)]
-pub enum HeaderWritten {
-    Bytes(usize, Writer),
-    Refused(Refusal, usize, Writer),
-}
+pub type HeaderWritten = Result<(usize, Writer), (Refusal, usize, Writer)>;
 
 // How a part of it was written: to its end, with the next row, the place after it and the state; or refused.
-#[derive(Clone, Copy)]
-enum Wrote {
-    Through(usize, usize, Writer),
-    Refused(Refusal, usize, Writer),
-}
+type Wrote = Result<(usize, usize, Writer), (Refusal, usize, Writer)>;
 
 // Writes a header with these values kept and the first `count` rows of a table.
 pub fn header(
@@ -47,14 +41,14 @@ pub fn header(
     ensures { Does result out.new (header_call w src.now h rows.now count out.old) }
 {
     if place::misplaced(src, h, rows, count) {
-        return HeaderWritten::Refused(Refusal::BadPlace, 0, w);
+        return Err((Refusal::BadPlace, 0, w));
     }
     if !tree::good_table(rows, count) {
-        return HeaderWritten::Refused(Refusal::BadTable, 0, w);
+        return Err((Refusal::BadTable, 0, w));
     }
     match write_kept(w, src, h, out) {
-        Wrote::Through(_, at, v) => write_rows(v, src, rows, count, out, at),
-        Wrote::Refused(e, at, v) => HeaderWritten::Refused(e, at, v),
+        Ok((_, at, v)) => write_rows(v, src, rows, count, out, at),
+        Err((e, at, v)) => Err((e, at, v)),
     }
 }
 
@@ -64,8 +58,8 @@ fn write_one(w: Writer, src: &[u8], k: Command, row: usize, out: &mut [u8], at: 
     ensures { Writes out.old at w (meaning src.now k ∷ []) row result out.new }
 {
     match w.command(src, k, &mut out[at..]) {
-        Written::Bytes(n, v) => Wrote::Through(row, at + n, v),
-        Written::Refused(e) => Wrote::Refused(e, at, w),
+        Ok((n, v)) => Ok((row, at + n, v)),
+        Err(e) => Err((e, at, w)),
     }
 }
 
@@ -78,38 +72,38 @@ fn write_kept(w: Writer, src: &[u8], h: Header, out: &mut [u8]) -> Wrote
     let version = h.version;
     let timescale = h.timescale;
     match write_date(w, src, date, out) {
-        Wrote::Through(_, at, v) => match write_version(v, src, version, out, at) {
-            Wrote::Through(_, past, u) => write_timescale(u, src, timescale, out, past),
-            Wrote::Refused(e, past, u) => Wrote::Refused(e, past, u),
+        Ok((_, at, v)) => match write_version(v, src, version, out, at) {
+            Ok((_, past, u)) => write_timescale(u, src, timescale, out, past),
+            Err((e, past, u)) => Err((e, past, u)),
         },
-        Wrote::Refused(e, at, v) => Wrote::Refused(e, at, v),
+        Err((e, at, v)) => Err((e, at, v)),
     }
 }
 
-fn write_date(w: Writer, src: &[u8], date: KeptText, out: &mut [u8]) -> Wrote
+fn write_date(w: Writer, src: &[u8], date: Option<Text>, out: &mut [u8]) -> Wrote
     requires { (too_long src.now ≡ false) × (kept_outside src.now date ≡ false) }
     ensures { Writes out.old 0 w (remark_of date_remark src.now date) 0 result out.new }
 {
     match date {
-        KeptText::None => Wrote::Through(0, 0, w),
-        KeptText::Is(t) => write_one(w, src, Command::Date(t), 0, out, 0),
+        None => Ok((0, 0, w)),
+        Some(t) => write_one(w, src, Command::Date(t), 0, out, 0),
     }
 }
 
-fn write_version(w: Writer, src: &[u8], version: KeptText, out: &mut [u8], at: usize) -> Wrote
+fn write_version(w: Writer, src: &[u8], version: Option<Text>, out: &mut [u8], at: usize) -> Wrote
     requires { (at ≤ length out.old) × (too_long src.now ≡ false) × (kept_outside src.now version ≡ false) }
     ensures { Writes out.old at w (remark_of version_remark src.now version) 0 result out.new }
 {
     match version {
-        KeptText::None => Wrote::Through(0, at, w),
-        KeptText::Is(t) => write_one(w, src, Command::Version(t), 0, out, at),
+        None => Ok((0, at, w)),
+        Some(t) => write_one(w, src, Command::Version(t), 0, out, at),
     }
 }
 
 fn write_timescale(
     w: Writer,
     src: &[u8],
-    timescale: KeptTimescale,
+    timescale: Option<(u32, TimescaleUnit)>,
     out: &mut [u8],
     at: usize,
 ) -> Wrote
@@ -117,8 +111,8 @@ fn write_timescale(
     ensures { Writes out.old at w (timescale_of timescale) 0 result out.new }
 {
     match timescale {
-        KeptTimescale::None => Wrote::Through(0, at, w),
-        KeptTimescale::Is(n, u) => write_one(w, src, Command::Timescale(n, u), 0, out, at),
+        None => Ok((0, at, w)),
+        Some((n, u)) => write_one(w, src, Command::Timescale(n, u), 0, out, at),
     }
 }
 
@@ -135,18 +129,11 @@ fn write_rows(
     ensures { Does result out.new (pour out.old at w (row_meanings src.now 0 [] (rows_of rows.now n))) }
 {
     match write_scope(w, src, rows, n, 0, out, at, rows::TOP, rows::LEVELS) {
-        Wrote::Through(_, past, v) => match write_one(
-            v,
-            src,
-            Command::Enddefinitions,
-            0,
-            out,
-            past,
-        ) {
-            Wrote::Through(_, end, u) => HeaderWritten::Bytes(end, u),
-            Wrote::Refused(e, end, u) => HeaderWritten::Refused(e, end, u),
+        Ok((_, past, v)) => match write_one(v, src, Command::Enddefinitions, 0, out, past) {
+            Ok((_, end, u)) => Ok((end, u)),
+            Err((e, end, u)) => Err((e, end, u)),
         },
-        Wrote::Refused(e, past, v) => HeaderWritten::Refused(e, past, v),
+        Err((e, past, v)) => Err((e, past, v)),
     }
 }
 
@@ -171,20 +158,20 @@ fn write_scope(
     let mut place = at;
     while i < n {
         if tree::parent_at(rows, i) != me {
-            return Wrote::Through(i, place, v);
+            return Ok((i, place, v));
         }
         match write_item(v, src, rows, n, i, out, place, levels) {
-            Wrote::Through(next, past, u) => {
+            Ok((next, past, u)) => {
                 i = next;
                 place = past;
                 v = u;
             }
-            Wrote::Refused(e, past, u) => {
-                return Wrote::Refused(e, past, u);
+            Err((e, past, u)) => {
+                return Err((e, past, u));
             }
         }
     }
-    Wrote::Through(i, place, v)
+    Ok((i, place, v))
 }
 
 // Row i: a variable or a comment, or a scope with its items.
@@ -205,22 +192,22 @@ fn write_item(
     match rows::row_at(rows, i) {
         Row::Scope(_, k, t) => {
             if levels == 0 {
-                return Wrote::Refused(Refusal::BadTable, at, w);
+                return Err((Refusal::BadTable, at, w));
             }
             match write_one(w, src, Command::ScopeDef(k, t), i + 1, out, at) {
-                Wrote::Through(next, past, v) => {
+                Ok((next, past, v)) => {
                     close(
                         write_scope(v, src, rows, n, next, out, past, i as u64, levels - 1),
                         src,
                         out,
                     )
                 }
-                Wrote::Refused(e, past, v) => Wrote::Refused(e, past, v),
+                Err((e, past, v)) => Err((e, past, v)),
             }
         }
         Row::Var(_, _) => write_vars(w, src, rows, n, i, out, at),
         Row::Comment(_, t) => write_one(w, src, Command::Comment(t), i + 1, out, at),
-        Row::None => Wrote::Refused(Refusal::BadTable, at, w),
+        Row::None => Err((Refusal::BadTable, at, w)),
     }
 }
 
@@ -243,17 +230,17 @@ fn write_vars(
     let mut place = at;
     while i < n && tree::is_var_of(rows, i, me) {
         match write_var(v, src, rows::peek::var_at(rows, i), i + 1, out, place) {
-            Wrote::Through(next, past, u) => {
+            Ok((next, past, u)) => {
                 i = next;
                 place = past;
                 v = u;
             }
-            Wrote::Refused(e, past, u) => {
-                return Wrote::Refused(e, past, u);
+            Err((e, past, u)) => {
+                return Err((e, past, u));
             }
         }
     }
-    Wrote::Through(i, place, v)
+    Ok((i, place, v))
 }
 
 fn write_var(w: Writer, src: &[u8], v: Var, row: usize, out: &mut [u8], at: usize) -> Wrote
@@ -261,8 +248,8 @@ fn write_var(w: Writer, src: &[u8], v: Var, row: usize, out: &mut [u8], at: usiz
     ensures { Writes out.old at w (var_meaning src.now v ∷ []) row result out.new }
 {
     match w.var(src, v, &mut out[at..]) {
-        Written::Bytes(n, u) => Wrote::Through(row, at + n, u),
-        Written::Refused(e) => Wrote::Refused(e, at, w),
+        Ok((n, u)) => Ok((row, at + n, u)),
+        Err(e) => Err((e, at, w)),
     }
 }
 
@@ -272,7 +259,7 @@ fn close(items: Wrote, src: &[u8], out: &mut [u8]) -> Wrote
     ensures { Closes items out.old result out.new }
 {
     match items {
-        Wrote::Through(next, at, w) => write_one(w, src, Command::Upscope, next, out, at),
-        Wrote::Refused(e, at, w) => Wrote::Refused(e, at, w),
+        Ok((next, at, w)) => write_one(w, src, Command::Upscope, next, out, at),
+        Err((e, at, w)) => Err((e, at, w)),
     }
 }

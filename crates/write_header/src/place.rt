@@ -3,7 +3,8 @@ ghost use Rattle.std.specs.Prelude.{◌≡◌};
 ghost use Rattle.rows.specs.Rows.{rows_of};
 ghost use Rattle.write_header.specs.Written.{misplaced as is_misplaced, kept_outside};
 
-use header::{Header, KeptText};
+use header::Header;
+use text::Text;
 
 // 25: the source is over the limit, or a text outside it.
 pub fn misplaced(src: &[u8], h: Header, rows: &[u64], count: usize) -> bool
@@ -23,11 +24,11 @@ pub fn misplaced(src: &[u8], h: Header, rows: &[u64], count: usize) -> bool
     tree::place::some_outside(src, rows, count)
 }
 
-fn kept_outside(src: &[u8], k: KeptText) -> bool
+fn kept_outside(src: &[u8], k: Option<Text>) -> bool
     ensures { result ≡ kept_outside src.now k }
 {
     match k {
-        KeptText::None => false,
-        KeptText::Is(t) => !text::within(src, t),
+        None => false,
+        Some(t) => !text::within(src, t),
     }
 }

@@ -9,9 +9,6 @@ returns-then-not-fits c =
     let x = c.args in
     lay-none x.a.now (x.b.now ∷ x.c.now ∷ x.d.now ∷ x.e.now ∷ []) x.out.now (fits-no _ _ c.fits.ensures c.if-not-fits.true-raw)
 
-pub put_five-requires : goal.put_five-requires
-put_five-requires c = rw zero-add (fits-yes _ _ c.fits.ensures c.if-not-fits.false-raw)
-
 pub returns : goal.returns
 returns c =
     let x = c.args in

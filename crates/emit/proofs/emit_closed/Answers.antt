@@ -25,13 +25,6 @@ returns-then-not-fits c =
     let h : length x.out.now - 7 < n = fits-no n _ c.fits.ensures c.if-not-fits.true-raw in
     lay-none (bytes "$") (tail x.word.now x.gap.now x.a.now x.mid.now x.b.now x.last) x.out.now (omega arith)
 
-pub put_closed-requires : goal.put_closed-requires
-put_closed-requires c =
-    let x = c.args in
-    let n = sum x.word.now x.gap.now x.a.now x.mid.now x.b.now in
-    let h : n ≤ length x.out.now - 7 = fits-yes n _ c.fits.ensures c.if-not-fits.false-raw in
-    omega arith
-
 pub returns : goal.returns
 returns c =
     let x = c.args in

@@ -14,24 +14,6 @@ use Rattle.emit.proofs.emit_eight.Goals as goal
 first : (o : List ℕ) → length (set o 0 35) ≡ length o
 first o = simp length-set
 
-pub put_pair-requires : goal.put_pair-requires
-put_pair-requires c = (omega (arith, first c.args.out.now), omega arith)
-
-pub put_pair-requires-2 : goal.put_pair-requires-2
-put_pair-requires-2 c = (omega (arith, first c.args.out.now), omega arith)
-
-pub put_pair-requires-3 : goal.put_pair-requires-3
-put_pair-requires-3 c = (omega (arith, first c.args.out.now), omega arith)
-
-pub put_pair-requires-4 : goal.put_pair-requires-4
-put_pair-requires-4 c = (omega (arith, first c.args.out.now), omega arith)
-
-pub bounds-out-9 : goal.bounds-out-9
-bounds-out-9 c = omega (arith, first c.args.out.now)
-
-pub shape_of-out : goal.shape_of-out
-shape_of-out c = simp length-set (omega (arith, first c.args.out.now))
-
 pub returns : goal.returns
 returns c =
     let x = c.args in

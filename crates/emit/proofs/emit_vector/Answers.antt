@@ -1,4 +1,5 @@
 -- Goals of `emit::emit_vector` that the search leaves.
+use Rattle.std.specs.Prelude.{Option, Some}
 use Prim.Native.Nat.{ℕ, ◌+◌, ◌≤◌}
 use mathlib.Core.Path.{◌≡◌, refl, ap, ◌∙◌}
 use mathlib.Core.List.{List, [], ◌∷◌, ◌++◌, map, append_assoc}
@@ -6,7 +7,6 @@ use native.Mathlib.Omega.{arith}
 use lib.ListN.{length, set, length-append, length-map, length-set}
 use Rattle.idcode.specs.Id.{id_text}
 use Rattle.text.specs.Bytes.{bytes}
-use Rattle.text.specs.declared.Placed.{Placed}
 use Rattle.value.specs.Values.{lower}
 use Rattle.emit.specs.Put.{stored}
 use Rattle.emit.proofs.Storing.{stored-length, lay-none}
@@ -31,38 +31,38 @@ returns-then-out-v c =
     lay-none (bytes "b") (map lower x.v.now ∷ bytes " " ∷ id_text x.id.0 ∷ bytes "\n" ∷ []) x.out.now (simp length-map (omega arith))
 
 -- what the calls left: room for the newline, and as many bytes as there were
-module _ (t v o : List ℕ) (h : length v + 3 ≤ length o) {x : Placed} {ys left : List ℕ} (e : Placing t (length v + 2) o x ys) where
-  room : (n : ℕ) → x ≡ Placed.Count n → left ≡ stored (within (length v + 2) o ys) 0 (values v)
+module _ (t v o : List ℕ) (h : length v + 3 ≤ length o) {x : Option ℕ} {ys left : List ℕ} (e : Placing t (length v + 2) o x ys) where
+  room : (n : ℕ) → x ≡ Some n → left ≡ stored (within (length v + 2) o ys) 0 (values v)
       → (length v + 2 + n + 1 ≤ length o) × (length left ≡ length o)
   room n q l =
       let y = spared t o (length v + 2) (omega arith) e n q in
       (y.0, ap length l ∙ stored-length _ 0 (values v) (omega (arith, y.1, size v)) ∙ y.1)
 
 pub overflow_add-out : goal.overflow_add-out
-overflow_add-out c = omega (arith, room (id_text c.args.id.0) c.args.v.now c.args.out.now (omega arith) c.put.ensures c.in-Count.n c.in-Count.is c.put_values.ensures)
+overflow_add-out c = omega (arith, room (id_text c.args.id.0) c.args.v.now c.args.out.now (omega arith) c.put.ensures c.in-Some.n c.in-Some.is c.put_values.ensures)
 
 pub bounds-out-at : goal.bounds-out-at
-bounds-out-at c = omega (arith, room (id_text c.args.id.0) c.args.v.now c.args.out.now (omega arith) c.put.ensures c.in-Count.n c.in-Count.is c.put_values.ensures)
+bounds-out-at c = omega (arith, room (id_text c.args.id.0) c.args.v.now c.args.out.now (omega arith) c.put.ensures c.in-Some.n c.in-Some.is c.put_values.ensures)
 
-pub shape_of-out-in-Count : goal.shape_of-out-in-Count
-shape_of-out-in-Count c = simp length-set (room (id_text c.args.id.0) c.args.v.now c.args.out.now (omega arith) c.put.ensures c.in-Count.n c.in-Count.is c.put_values.ensures).1
+pub shape_of-out-in-Some : goal.shape_of-out-in-Some
+shape_of-out-in-Some c = simp length-set (room (id_text c.args.id.0) c.args.v.now c.args.out.now (omega arith) c.put.ensures c.in-Some.n c.in-Some.is c.put_values.ensures).1
 
-pub returns-in-Count : goal.returns-in-Count
-returns-in-Count c =
+pub returns-in-Some : goal.returns-in-Some
+returns-in-Some c =
     let x = c.args in
-    let m : ℕ = length x.v.now + 2 + c.in-Count.n in
+    let m : ℕ = length x.v.now + 2 + c.in-Some.n in
     rw (append_assoc (map lower x.v.now) (bytes " ") (id_text x.id.0 ++ bytes "\n")) at
-    (framed (values x.v.now) (id_text x.id.0) x.out.now _ (size x.v.now) (omega arith) c.put.ensures c.in-Count.n m c.in-Count.is refl
+    (framed (values x.v.now) (id_text x.id.0) x.out.now _ (size x.v.now) (omega arith) c.put.ensures c.in-Some.n m c.in-Some.is refl
     (ap (λ (l : List ℕ). set l m 10) c.put_values.ensures))
 
-pub returns-in-NoRoom : goal.returns-in-NoRoom
-returns-in-NoRoom c =
+pub returns-in-None : goal.returns-in-None
+returns-in-None c =
     let x = c.args in
     rw (append_assoc (map lower x.v.now) (bytes " ") (id_text x.id.0 ++ bytes "\n")) at
-    (unframed (values x.v.now) (id_text x.id.0) x.out.now _ (size x.v.now) (omega arith) c.put.ensures c.in-NoRoom.is refl)
+    (unframed (values x.v.now) (id_text x.id.0) x.out.now _ (size x.v.now) (omega arith) c.put.ensures c.in-None.is refl)
 
 pub overflow_add-result : goal.overflow_add-result
-overflow_add-result c = omega (arith, room (id_text c.args.id.0) c.args.v.now c.args.out.now (omega arith) c.put.ensures c.in-Count.n c.in-Count.is c.put_values.ensures)
+overflow_add-result c = omega (arith, room (id_text c.args.id.0) c.args.v.now c.args.out.now (omega arith) c.put.ensures c.in-Some.n c.in-Some.is c.put_values.ensures)
 
-pub overflow_add-result-in-Count : goal.overflow_add-result-in-Count
-overflow_add-result-in-Count c = omega (arith, room (id_text c.args.id.0) c.args.v.now c.args.out.now (omega arith) c.put.ensures c.in-Count.n c.in-Count.is c.put_values.ensures)
+pub overflow_add-result-in-Some : goal.overflow_add-result-in-Some
+overflow_add-result-in-Some c = omega (arith, room (id_text c.args.id.0) c.args.v.now c.args.out.now (omega arith) c.put.ensures c.in-Some.n c.in-Some.is c.put_values.ensures)

@@ -3,13 +3,13 @@ use native.Mathlib.Omega.{arith}
 use Rattle.emit_var.proofs.Putting.{part_count, part-full}
 use Rattle.emit_var.proofs.put_id.Goals as goal
 
-pub returns-in-Count : goal.returns-in-Count
-returns-in-Count c =
-    part_count _ c.args.out.now c.args.at c.requires c.put.ensures _ c.in-Count.is
+pub returns-in-Some : goal.returns-in-Some
+returns-in-Some c =
+    part_count _ c.args.out.now c.args.at c.requires c.put.ensures _ c.in-Some.is
 
 pub overflow_add-result : goal.overflow_add-result
-overflow_add-result c = record { fits = omega (arith, (part_count _ c.args.out.now c.args.at c.requires c.put.ensures _ c.in-Count.is).0) }
+overflow_add-result c = record { fits = omega (arith, (part_count _ c.args.out.now c.args.at c.requires c.put.ensures _ c.in-Some.is).0) }
 
-pub returns-in-NoRoom : goal.returns-in-NoRoom
-returns-in-NoRoom c =
-    absurd (part-full _ c.args.out.now c.args.at c.requires c.put.ensures c.in-NoRoom.is)
+pub returns-in-None : goal.returns-in-None
+returns-in-None c =
+    absurd (part-full _ c.args.out.now c.args.at c.requires c.put.ensures c.in-None.is)

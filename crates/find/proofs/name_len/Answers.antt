@@ -1,15 +1,15 @@
 -- Goals of `find::name_len` that the search leaves.
-use Rattle.scope.proofs.Splitting.{sought-start, sought-more, sought-found, sought-none}
+use mathlib.Core.Path.{◌≡◌, ◌∙◌}
+use mathlib.Core.Logic.{◌≢◌}
+use borrow.Author.Tests.{tests}
+use Rattle.std.proofs.Common.{rules}
+use Rattle.std.proofs.lemmas.Iterator.{IsFirst-from_position, YieldsList-from_slice}
+use Rattle.find.proofs.Finding.{space-length}
 use Rattle.find.proofs.name_len.Goals as goal
 
-pub loop-i-init : goal.loop-i-init
-loop-i-init c = sought-start _ _
-
-pub returns-then-s-i-eq32 : goal.returns-then-s-i-eq32
-returns-then-s-i-eq32 c = sought-found _ _ _ c.loop-i.invariant c.loop-i-test.true c.if-s-i-eq32.true
-
-pub loop-i-preserved : goal.loop-i-preserved
-loop-i-preserved c = sought-more _ _ _ c.loop-i.invariant c.loop-i-test.true c.if-s-i-eq32.false
-
 pub returns : goal.returns
-returns c = sought-none _ _ _ c.loop-i.invariant c.loop-i-test.false
+returns c =
+    c.unwrap_or.ensures
+    ∙ space-length _ _
+    (IsFirst-from_position _ _ _ (λ b. b ≡ 32) (λ b. b ≢ 32) c.position.ensures.ran (YieldsList-from_slice c.args.s.now cc)
+    (λ x q k. search (rules, tests)) (λ x q k. search (rules, tests)))

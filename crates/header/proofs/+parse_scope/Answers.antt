@@ -66,24 +66,24 @@ parse_scope-requires t c =
 pub loop-d-smaller : goal.loop-d-smaller
 loop-d-smaller t c =
     let g = rw c.in-Scope.is at c.take_item.ensures in
-    let f = rw c.in-Closed.is at c.parse_scope.ensures in
+    let f = rw c.in-Ok.is at c.parse_scope.ensures in
     omega (arith, g.1.1, f.1, c.take_vars-vars.ensures.1)
 
 pub loop-d-preserved : goal.loop-d-preserved
 loop-d-preserved t c =
     let b = past-vars t (goal.at.loop-d-preserved t c).After-take_vars-vars in
     let g = rw c.in-Scope.is at c.take_item.ensures in
-    let f = rw c.in-Closed.is at c.parse_scope.ensures in
+    let f = rw c.in-Ok.is at c.parse_scope.ensures in
     (c.parse_scope.auto.rows ∙ c.take_item.auto.rows ∙ b.0, reached-scope b.1 _ _ _ _ _ g f)
 
-pub shape_of-rows-in-Refused-parse_scope : goal.shape_of-rows-in-Refused-parse_scope
-shape_of-rows-in-Refused-parse_scope t c = c.parse_scope.auto.rows ∙ c.take_item.auto.rows ∙ (past-vars t (goal.at.shape_of-rows-in-Refused-parse_scope t c).After-take_vars-vars).0
+pub shape_of-rows-in-Err : goal.shape_of-rows-in-Err
+shape_of-rows-in-Err t c = c.parse_scope.auto.rows ∙ c.take_item.auto.rows ∙ (past-vars t (goal.at.shape_of-rows-in-Err t c).After-take_vars-vars).0
 
-pub returns-in-Refused-parse_scope : goal.returns-in-Refused-parse_scope
-returns-in-Refused-parse_scope t c =
+pub returns-in-Err : goal.returns-in-Err
+returns-in-Err t c =
     let g = rw c.in-Scope.is at c.take_item.ensures in
-    let f = rw c.in-Refused-parse_scope.is at c.parse_scope.ensures in
-    ends-within (past-vars t (goal.at.returns-in-Refused-parse_scope t c).After-take_vars-vars).1 _ _ _ _ _ _ _ g f
+    let f = rw c.in-Err.is at c.parse_scope.ensures in
+    ends-within (past-vars t (goal.at.returns-in-Err t c).After-take_vars-vars).1 _ _ _ _ _ _ _ g f
 
 pub shape_of-rows-in-Other : goal.shape_of-rows-in-Other
 shape_of-rows-in-Other t c = c.take_item.auto.rows ∙ (past-vars t (goal.at.shape_of-rows-in-Other t c).After-take_vars-vars).0

@@ -45,18 +45,18 @@ parse_scope-requires c =
     let same = c.take_item.auto.rows ∙ i.3 in
     (omega (arith, g.1.0), i.0, omega (arith, same, i.1), omega arith)
 
-pub loop-d-smaller-in-Closed : goal.loop-d-smaller-in-Closed
-loop-d-smaller-in-Closed c =
+pub loop-d-smaller-in-Ok : goal.loop-d-smaller-in-Ok
+loop-d-smaller-in-Ok c =
     let g = rw c.in-Scope.is at c.take_item.ensures in
-    let f = rw c.in-Closed.is at c.parse_scope.ensures in
+    let f = rw c.in-Ok.is at c.parse_scope.ensures in
     omega (arith, g.1.1, f.1)
 
-pub loop-d-preserved-in-Closed : goal.loop-d-preserved-in-Closed
-loop-d-preserved-in-Closed c =
+pub loop-d-preserved-in-Ok : goal.loop-d-preserved-in-Ok
+loop-d-preserved-in-Ok c =
     let l = c.loop-d in
     let i = l.invariant in
     let g = rw c.in-Scope.is at c.take_item.ensures in
-    let f = rw c.in-Closed.is at c.parse_scope.ensures in (
+    let f = rw c.in-Ok.is at c.parse_scope.ensures in (
       i.0,
       i.1,
       f.0,
@@ -64,16 +64,16 @@ loop-d-preserved-in-Closed c =
       i.4 ∙ g.1.2 [] l.header (refl, refl) ∙ f.2 [] l.header refl,
     )
 
-pub shape_of-rows-in-Refused-parse_scope : goal.shape_of-rows-in-Refused-parse_scope
-shape_of-rows-in-Refused-parse_scope c = c.parse_scope.auto.rows ∙ c.take_item.auto.rows ∙ c.loop-d.invariant.3
+pub shape_of-rows-in-Err : goal.shape_of-rows-in-Err
+shape_of-rows-in-Err c = c.parse_scope.auto.rows ∙ c.take_item.auto.rows ∙ c.loop-d.invariant.3
 
-pub returns-in-Refused-parse_scope : goal.returns-in-Refused-parse_scope
-returns-in-Refused-parse_scope c =
+pub returns-in-Err : goal.returns-in-Err
+returns-in-Err c =
     let l = c.loop-d in
     let a = c.args in
     let i = l.invariant in
     let g = rw c.in-Scope.is at c.take_item.ensures in
-    let f = rw c.in-Refused-parse_scope.is at c.parse_scope.ensures in
+    let f = rw c.in-Err.is at c.parse_scope.ensures in
     let s = settled a.rows.now (header_of a.input.now a.c a.rows.now) l.header _ _ _ _
     (i.4 ∙ g.1.2 [] l.header (refl, refl) ∙ f.1 [] l.header refl) (omega (arith, f.0, i.1)) in
     record { answer = c.answer.ensures ∙ s.0; table = s.1 }

@@ -1,10 +1,7 @@
 -- What the loop of `lent_rows::fill` keeps.
-use Rattle.std.proofs.Common.{◌≡◌, ◌-◌, ◌≤◌}
+use Rattle.std.proofs.Common.{◌≡◌}
 use Rattle.lent_rows.specs.Rows.{fill_rows}
 use Rattle.lent_rows.proofs.fill.Given as goal
 
 abbrev pub invariant-loop-k : goal.invariant-loop-k
-invariant-loop-k l = record { within : l.k ≤ l.m; filled : l.rows ≡ fill_rows 0 l.k l.words l.initial.rows }
-
-abbrev pub decreases-loop-k : goal.decreases-loop-k
-decreases-loop-k l = l.m - l.k
+invariant-loop-k l = l.rows ≡ fill_rows 0 l.k l.words l.initial.rows

@@ -1,15 +1,10 @@
 -- Goals of `lent_rows::read_flat` that the search leaves.
 use mathlib.Core.Path.{ap, sym, ◌∙◌}
-use native.Mathlib.Omega.{arith}
 use Prim.Native.Nat.{ℕ, ◌*◌}
 use mathlib.Core.List.{List, ◌++◌}
 use lib.ListN.{drop}
-use lib.Seq.{length-take-le}
 use Rattle.lent_rows.proofs.Flat.{whole}
 use Rattle.lent_rows.proofs.read_flat.Goals as goal
-
-pub slice_bounds-read_header-end-2 : goal.slice_bounds-read_header-end-2
-slice_bounds-read_header-end-2 c = sym (length-take-le _ _ (omega (arith, c.least-room.ensures)))
 
 pub returns : goal.returns
 returns c =

@@ -1,11 +1,11 @@
 -- Goals of `lines::put_change` that the search leaves.
+use Rattle.std.specs.Prelude.{Option}
 use mathlib.Core.Path.{◌≡◌, refl}
 use mathlib.Core.List.{List}
 use Prim.Native.Nat.{ℕ}
 use Rattle.emit.proofs.Storing.{row-text}
 use Rattle.change.specs.declared.ChangeKind.{ChangeKind}
 use Rattle.number.specs.Decimal.{decimal_of}
-use Rattle.text.specs.declared.Placed.{Placed}
 use Rattle.lines.specs.Lines.{time_text, value_text, change_line}
 use Rattle.lines.proofs.Laying.{Laid, line_of, wide_is, laid-nothing, laid-change}
 use Rattle.lines.proofs.put_change.Goals as goal
@@ -13,7 +13,7 @@ use Rattle.lines.proofs.put_change.Goals.{After-front-digits}
 
 -- whatever the kind: the line of the words that stand at these places is the change's
 line-is : (c : After-front-digits) (kind : ChangeKind) {word : List ℕ} → c.in-Is.kind ≡ kind
-    → word ≡ value_text c.args.width kind c.part-value.result.now → {r : Placed} {left : List ℕ}
+    → word ≡ value_text c.args.width kind c.part-value.result.now → {r : Option ℕ} {left : List ℕ}
     → Laid (line_of c.args.name.now c.front-time.result.now c.front-digits.result.now word) c.args.out.now r left
     → Laid (change_line c.args.input.now c.args.name.now c.args.width c.args.change) c.args.out.now r left
 line-is c kind q w e =

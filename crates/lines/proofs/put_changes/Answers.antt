@@ -15,7 +15,7 @@ pub loop-next-preserved : goal.loop-next-preserved
 loop-next-preserved c =
     let x = c.args in (
       going_more x.input.now x.name.now x.width x.changes.now x.from x.to x.out.now _ _ _
-          c.loop-next.invariant.0 c.loop-next-test.true c.change_at.ensures c.put_change.ensures _ c.in-Count.is,
+          c.loop-next.invariant.0 c.loop-next-test.true c.change_at.ensures c.put_change.ensures _ c.in-Some.is,
       search rules,
     )
 
@@ -23,14 +23,14 @@ pub overflow_add-count : goal.overflow_add-count
 overflow_add-count c =
     let x = c.args in
     let f = (going_more x.input.now x.name.now x.width x.changes.now x.from x.to x.out.now _ _ _
-    c.loop-next.invariant.0 c.loop-next-test.true c.change_at.ensures c.put_change.ensures _ c.in-Count.is).within in
+    c.loop-next.invariant.0 c.loop-next-test.true c.change_at.ensures c.put_change.ensures _ c.in-Some.is).within in
     let k : length (put_mid c.loop-next.count (length c.loop-next.out - c.loop-next.count) c.loop-next.out c.put_change.new.out) ≡ length x.out.now = search rules in
     omega (arith, f, k)
 
-pub returns-in-NoRoom : goal.returns-in-NoRoom
-returns-in-NoRoom c =
+pub returns-in-None : goal.returns-in-None
+returns-in-None c =
     let x = c.args in
-    record { answer = (going-full x.input.now x.name.now x.width x.changes.now x.from x.to x.out.now _ _ _ c.loop-next.invariant.0 c.loop-next-test.true c.change_at.ensures c.put_change.ensures c.in-NoRoom.is).0; bytes = (going-full x.input.now x.name.now x.width x.changes.now x.from x.to x.out.now _ _ _ c.loop-next.invariant.0 c.loop-next-test.true c.change_at.ensures c.put_change.ensures c.in-NoRoom.is).1 }
+    record { answer = (going-full x.input.now x.name.now x.width x.changes.now x.from x.to x.out.now _ _ _ c.loop-next.invariant.0 c.loop-next-test.true c.change_at.ensures c.put_change.ensures c.in-None.is).0; bytes = (going-full x.input.now x.name.now x.width x.changes.now x.from x.to x.out.now _ _ _ c.loop-next.invariant.0 c.loop-next-test.true c.change_at.ensures c.put_change.ensures c.in-None.is).1 }
 
 pub returns : goal.returns
 returns c =

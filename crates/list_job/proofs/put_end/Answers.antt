@@ -5,14 +5,14 @@ use Rattle.list_job.proofs.put_end.Goals as goal
 pub returns-then-is_full : goal.returns-then-is_full
 returns-then-is_full c =
     let x = c.args in
-    end-full x.name.now x.ended x.out.now c.in-Refused.is c.is_full.ensures c.if-is_full.true c.counted.ensures c.put_full.ensures
+    end-full x.name.now x.ended x.out.now c.in-Err.is c.is_full.ensures c.if-is_full.true c.counted.ensures c.put_full.ensures
 
-pub returns-in-Whole : goal.returns-in-Whole
-returns-in-Whole c =
+pub returns-in-Ok : goal.returns-in-Ok
+returns-in-Ok c =
     let x = c.args in
-    end_whole x.name.now x.ended x.out.now c.in-Whole.is
+    end_whole x.name.now x.ended x.out.now c.in-Ok.is
 
 pub returns-else-is_full : goal.returns-else-is_full
 returns-else-is_full c =
     let x = c.args in
-    end-other x.name.now x.ended x.out.now c.in-Refused.is c.is_full.ensures c.if-is_full.false
+    end-other x.name.now x.ended x.out.now c.in-Err.is c.is_full.ensures c.if-is_full.false

@@ -2,12 +2,12 @@
 use Rattle.list_job.proofs.Putting.{met-none, met-line}
 use Rattle.list_job.proofs.put_met.Goals as goal
 
-pub returns-in-Nothing : goal.returns-in-Nothing
-returns-in-Nothing c =
+pub returns-in-None : goal.returns-in-None
+returns-in-None c =
     let x = c.args in
-    met-none x.met x.out.now c.in-Nothing.is
+    met-none x.met x.out.now c.in-None.is
 
-pub returns-in-Refused : goal.returns-in-Refused
-returns-in-Refused c =
+pub returns-in-Some : goal.returns-in-Some
+returns-in-Some c =
     let x = c.args in
-    met-line x.met x.out.now c.in-Refused.is c.number.ensures c.counted.ensures c.put_refused.ensures
+    met-line x.met x.out.now c.in-Some.is c.number.ensures c.counted.ensures c.put_refused.ensures

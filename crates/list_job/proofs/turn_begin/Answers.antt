@@ -7,15 +7,15 @@ returns-then-input-gt-TAKEN c =
     let x = c.args in
     begin-long x.input.now x.rows.now x.out.now c.if-input-gt-TAKEN.true c.put_long.ensures c.last.ensures
 
-pub returns-in-Whole : goal.returns-in-Whole
-returns-in-Whole c =
+pub returns-in-Ok : goal.returns-in-Ok
+returns-in-Ok c =
     let x = c.args in
     let h = c.read_header-h in
-    begin-whole x.input.now x.rows.now x.out.now c.if-input-gt-TAKEN.false c.start.ensures h.ensures.answer h.ensures.table c.in-Whole.is
+    begin-whole x.input.now x.rows.now x.out.now c.if-input-gt-TAKEN.false c.start.ensures h.ensures.answer h.ensures.table c.in-Ok.is
 
-pub returns-in-Refused : goal.returns-in-Refused
-returns-in-Refused c =
+pub returns-in-Err : goal.returns-in-Err
+returns-in-Err c =
     let x = c.args in
     let h = c.read_header-h in
     begin-refused x.input.now x.rows.now x.out.now c.if-input-gt-TAKEN.false c.start.ensures h.ensures.answer h.ensures.table
-    c.in-Refused.is c.put_met.ensures c.last-in-Refused.ensures
+    c.in-Err.is c.put_met.ensures c.last-in-Err.ensures

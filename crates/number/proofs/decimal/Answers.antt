@@ -7,11 +7,8 @@ use Rattle.number.proofs.decimal.Goals as goal
 pub loop-i-init : goal.loop-i-init
 loop-i-init c = fill_start _ _ _ c.digits-len.ensures (omega (arith, short 19 c.args.n (omega arith)))
 
-pub bounds-bytes-i : goal.bounds-bytes-i
-bounds-bytes-i c = omega (arith, short 19 c.args.n (omega arith))
-
 pub loop-i-preserved : goal.loop-i-preserved
-loop-i-preserved c = fill_more _ _ _ _ _ c.loop-i.invariant c.loop-i-test.true
+loop-i-preserved c = fill_more _ _ _ _ _ c.loop-i.invariant (omega arith)
 
 pub returns : goal.returns
-returns c = fill-spelled _ _ _ _ _ c.digits-len.ensures c.loop-i-test.false c.loop-i.invariant
+returns c = fill-spelled _ _ _ _ _ c.digits-len.ensures (omega arith) c.loop-i.invariant

@@ -3,15 +3,9 @@ use native.Mathlib.Omega.{arith}
 use Rattle.number.proofs.Writing.{some, short, length-one, length_more}
 use Rattle.number.proofs.digits.Goals as goal
 
-pub loop-rest-init : goal.loop-rest-init
-loop-rest-init c = omega arith
-
 pub overflow_add-count : goal.overflow_add-count
 overflow_add-count c =
     omega (arith, short 19 c.args.n (omega arith), some c.loop-rest.rest)
-
-pub loop-rest-smaller : goal.loop-rest-smaller
-loop-rest-smaller c = omega arith
 
 pub loop-rest-preserved : goal.loop-rest-preserved
 loop-rest-preserved c = omega (arith, length_more _ c.loop-rest-test.true)

@@ -1,16 +1,6 @@
 -- Goals of `parser_declare::var_end` that the search leaves.
-use Rattle.parser_part.proofs.Arms.{word_next, word_on, word-off}
+use Rattle.parser_part.proofs.Kept.{word_next}
 use Rattle.parser_declare.proofs.var_end.Goals as goal
 
-pub after_name-requires : goal.after_name-requires
-after_name-requires c =
-    word_next c.requires _ c.read_token_str-tok.ensures
-    c.in-Word.is
-
-pub returns-in-Word : goal.returns-in-Word
-returns-in-Word c =
-    word_on c.requires _ c.read_token_str-tok.ensures _
-    c.in-Word.is (rw c.part.ensures at c.after_name.ensures)
-
-pub returns-in-Refused : goal.returns-in-Refused
-returns-in-Refused c = word-off c.requires _ c.read_token_str-tok.ensures _ c.in-Refused.is
+pub read_token_str-requires-2 : goal.read_token_str-requires-2
+read_token_str-requires-2 c = word_next c.requires _ c.read_token_str.ensures c.in_ok-t.was

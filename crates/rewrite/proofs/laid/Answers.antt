@@ -1,8 +1,8 @@
 -- Goals of `rewrite::laid` that the search leaves.
 use Rattle.rewrite.proofs.laid.Goals as goal
 
-pub returns-in-Count : goal.returns-in-Count
-returns-in-Count c = rw c.in-Count.is
+pub returns-in-Some : goal.returns-in-Some
+returns-in-Some c = rw c.in-Some.is
 
-pub returns-in-NoRoom : goal.returns-in-NoRoom
-returns-in-NoRoom c = rw (c.in-NoRoom.is, c.word_read-d.ensures)
+pub returns-in-None : goal.returns-in-None
+returns-in-None c = rw (c.in-None.is, c.word_read-d.ensures)

@@ -1,15 +1,15 @@
 -- Goals of `scope::find_colon` that the search leaves.
-use Rattle.scope.proofs.Splitting.{sought-start, sought-more, sought-found, sought-none}
+use mathlib.Core.Path.{◌≡◌, ◌∙◌}
+use mathlib.Core.Logic.{◌≢◌}
+use borrow.Author.Tests.{tests}
+use Rattle.std.proofs.Common.{rules}
+use Rattle.std.proofs.lemmas.Iterator.{IsFirst-from_position, YieldsList-from_slice}
+use Rattle.scope.proofs.Splitting.{up-length}
 use Rattle.scope.proofs.find_colon.Goals as goal
 
-pub loop-i-init : goal.loop-i-init
-loop-i-init c = sought-start _ _
-
-pub returns-then-s-i-eq58 : goal.returns-then-s-i-eq58
-returns-then-s-i-eq58 c = sought-found _ _ _ c.loop-i.invariant c.loop-i-test.true c.if-s-i-eq58.true
-
-pub loop-i-preserved : goal.loop-i-preserved
-loop-i-preserved c = sought-more _ _ _ c.loop-i.invariant c.loop-i-test.true c.if-s-i-eq58.false
-
 pub returns : goal.returns
-returns c = sought-none _ _ _ c.loop-i.invariant c.loop-i-test.false
+returns c =
+    c.unwrap_or.ensures
+    ∙ up-length 58 _ _
+    (IsFirst-from_position _ _ _ (λ b. b ≡ 58) (λ b. b ≢ 58) c.position.ensures.ran (YieldsList-from_slice c.args.s.now cc)
+    (λ x q k. search (rules, tests)) (λ x q k. search (rules, tests)))

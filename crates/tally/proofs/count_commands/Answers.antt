@@ -1,22 +1,18 @@
 -- Goals of `tally::count_commands` that the search leaves.
 use Rattle.parser.specs.Next.{next_from}
-use Rattle.parser_part.specs.declared.Next.TheVariants.{Command}
+use Rattle.parser.specs.declared.Next.TheVariants.{Command}
 use Rattle.token.proofs.Reading.{From}
 use Prim.Native.Nat.{◌<◌}
-use borrow.Author.Rules.{rules}
-use mathlib.Core.Path.{◌≡◌, refl, sym, ◌∙◌}
+use mathlib.Core.Path.{◌≡◌, sym, ◌∙◌}
 use native.Mathlib.Omega.{arith}
 use Rattle.parser.proofs.Ahead.{command-past}
-use Rattle.tally.proofs.Counts.{count-step, count-refused, count-done}
+use Rattle.tally.proofs.Counts.{count-step}
 use Rattle.tally.proofs.count_commands.Goals as goal
 use Rattle.tally.proofs.count_commands.Goals.{In-Command}
 
-pub loop-next-init : goal.loop-next-init
-loop-next-init c = (search rules, refl)
-
 -- the arm of a command: what was read, and that the cursor moved
 read : (c : In-Command) → next_from c.args.input.now c.loop-next.cur ≡ Command c.in-Command.field-0 c.in-Command.next
-read c = sym c.next_command-step.ensures ∙ c.in-Command.is
+read c = sym c.next_command.ensures ∙ c.in-Command.is
 
 moved : (c : In-Command) → From c.args.input.now c.loop-next.cur c.in-Command.next × (c.loop-next.cur.place < c.in-Command.next.place)
 moved c = command-past _ _ _ _ (read c)
@@ -34,14 +30,5 @@ loop-next-smaller c =
 pub loop-next-preserved : goal.loop-next-preserved
 loop-next-preserved c =
     let l = c.loop-next in
-    (omega (arith, (moved (goal.at.loop-next-preserved c).In-Command).1, l.invariant.0), count-step _ l.n _ _ _ (read (goal.at.loop-next-preserved c).In-Command) ∙ l.invariant.1)
-
-pub returns-in-Refused : goal.returns-in-Refused
-returns-in-Refused c =
-    let l = c.loop-next in
-    sym (count-refused _ l.n _ _ _ _ (sym c.next_command-step.ensures ∙ c.in-Refused.is)) ∙ l.invariant.1
-
-pub returns-in-Done : goal.returns-in-Done
-returns-in-Done c =
-    let l = c.loop-next in
-    sym (count-done _ l.n _ _ (sym c.next_command-step.ensures ∙ c.in-Done.is)) ∙ l.invariant.1
+    let a = (goal.at.loop-next-preserved c).In-Command in
+    (omega (arith, (moved a).1, l.invariant.0), count-step _ l.n _ _ _ (read a) ∙ l.invariant.1)

@@ -1,18 +1,7 @@
 -- Goals of `token::pairs_end` that the search leaves.
-use mathlib.Core.Path.{refl}
 use native.Mathlib.Omega.{arith}
-use borrow.Author.Rules.{rules}
 use Rattle.token.proofs.Words.{values-more, values-two, pair-value}
 use Rattle.token.proofs.pairs_end.Goals as goal
-
-pub returns-then-stop-at : goal.returns-then-stop-at
-returns-then-stop-at c = (search rules, omega arith, refl)
-
-pub loop-i-init : goal.loop-i-init
-loop-i-init c = (search rules, omega arith, refl)
-
-pub returns-then-input-i-ne24 : goal.returns-then-input-i-ne24
-returns-then-input-i-ne24 c = c.loop-i.invariant
 
 pub returns-then-input-i-ne24-2 : goal.returns-then-input-i-ne24-2
 returns-then-input-i-ne24-2 c =
@@ -21,6 +10,3 @@ returns-then-input-i-ne24-2 c =
 pub loop-i-preserved : goal.loop-i-preserved
 loop-i-preserved c =
     values-two _ _ _ c.loop-i.invariant (omega arith) c.if-input-i-ne24.false c.if-input-i-ne24-2.false
-
-pub returns : goal.returns
-returns c = c.loop-i.invariant

@@ -1,6 +1,5 @@
 -- Goals of `token::read_token` that the search leaves.
-use mathlib.Core.Path.{refl}
-use Rattle.token.specs.Read.{Valid, most, token}
+use Rattle.token.specs.Read.{Valid, most}
 use Rattle.token.specs.Flat.{first_passed}
 use Rattle.token.proofs.Tokens.{skipped-valid}
 use Rattle.token.proofs.Words.{in-input}
@@ -17,8 +16,3 @@ word_end-end-requires c = (from-valid (goal.at.word_end-end-requires c).After-sk
 pub token_to-requires : goal.token_to-requires
 unfolding first_passed
 token_to-requires c = record { valid = (in-input _ _ (most c.args.limit) _ (from-valid (goal.at.token_to-requires c).After-skip-from) c.word_end-end.ensures).0; place_le_end = (in-input _ _ (most c.args.limit) _ (from-valid (goal.at.token_to-requires c).After-skip-from) c.word_end-end.ensures).1 }
-
-pub returns : goal.returns
-unfolding first_passed token
-returns c =
-    rw (← c.skip-from.ensures) (c.token_to.ensures (most c.args.limit) refl c.word_end-end.ensures)

@@ -1,30 +1,18 @@
 -- Goals of `token::skip` that the search leaves.
-use mathlib.Core.Path.{refl, sym, ap, ◌∙◌}
-use native.Mathlib.Omega.{arith}
-use Rattle.token.specs.declared.Cursor.Cursor.{place}
-use Rattle.token.proofs.Reading.{valid-step, place-step, skip_step, skip_stop, skip-end}
+use mathlib.Core.Path.{sym, ◌∙◌}
+use Rattle.token.proofs.Reading.{blank-item, solid-item, no-item}
 use Rattle.token.proofs.skip.Goals as goal
 
-pub loop-cur-init : goal.loop-cur-init
-loop-cur-init c = (c.requires, refl)
+pub returns-then-not-whitespace_byte : goal.returns-then-not-whitespace_byte
+returns-then-not-whitespace_byte c =
+    let l = c.loop-b in
+    sym (solid-item _ c.args.c _ _ l.invariant.0 l.invariant.1 c.loop-b-test.true (sym c.whitespace_byte.ensures ∙ c.if-not-whitespace_byte.true)) ∙ l.invariant.2
 
-pub returns-then-input-at : goal.returns-then-input-at
-returns-then-input-at c = sym (skip-end _ _ c.if-input-at.true) ∙ c.loop-cur.invariant.1
+pub loop-b-preserved : goal.loop-b-preserved
+loop-b-preserved c =
+    let l = c.loop-b in
+    let x = blank-item _ c.args.c _ _ l.invariant.0 l.invariant.1 c.loop-b-test.true (sym c.whitespace_byte.ensures ∙ c.if-not-whitespace_byte.false) in
+    rw c.byte_read-cur.ensures (x.0, x.1, x.2 ∙ l.invariant.2)
 
-pub whitespace_byte-requires : goal.whitespace_byte-requires
-whitespace_byte-requires c = tt
-
-pub byte_read-cur-requires : goal.byte_read-cur-requires
-byte_read-cur-requires c = record { place_lt_limit = omega (arith, c.loop-cur.invariant.0); line_bound = omega (arith, c.loop-cur.invariant.0) }
-
-pub loop-cur-smaller : goal.loop-cur-smaller
-loop-cur-smaller c = omega (arith, ap place c.byte_read-cur.ensures ∙ place-step _ _)
-
-pub loop-cur-preserved : goal.loop-cur-preserved
-loop-cur-preserved c =
-    let l = c.loop-cur in
-    let h = c.if-input-at.false in
-    rw c.byte_read-cur.ensures (valid-step _ _ _ l.invariant.0 h, skip_step _ _ h (sym c.whitespace_byte.ensures ∙ c.if-whitespace_byte.true) ∙ l.invariant.1)
-
-pub returns-else-whitespace_byte : goal.returns-else-whitespace_byte
-returns-else-whitespace_byte c = sym (skip_stop _ _ c.if-input-at.false (sym c.whitespace_byte.ensures ∙ c.if-whitespace_byte.false)) ∙ c.loop-cur.invariant.1
+pub returns : goal.returns
+returns c = let l = c.loop-b in sym (no-item _ c.args.c _ _ l.invariant.0 l.invariant.1 c.loop-b-test.false) ∙ l.invariant.2

@@ -1,33 +1,20 @@
 -- Goals of `token::word_end` that the search leaves.
-use mathlib.Core.Path.{refl, sym, ap, ◌∙◌}
-use native.Mathlib.Omega.{arith}
-use lib.ListN.{length, drop, length-take, length-drop}
-use Rattle.token.proofs.Reading.{word-le}
-use Rattle.token.proofs.Words.{word-step, word-stop}
+use Prim.Native.Nat.{◌-◌}
+use borrow.Author.Rules.{rules}
+use borrow.Author.Tests.{tests}
+use Rattle.std.proofs.lemmas.Iterator.{YieldsList-from_slice}
+use Rattle.std.proofs.lemmas.Iterator.Search.{position_from_yields_List}
+use Rattle.text.specs.Bytes.{is_blank}
+use Rattle.token.proofs.Words.{Blank, blank-at, no-blank}
 use Rattle.token.proofs.word_end.Goals as goal
+use Rattle.token.proofs.word_end.Goals.{After-position}
 
-pub loop-i-init : goal.loop-i-init
-loop-i-init c = (omega arith, omega (arith, c.stop_at-stop.ensures), refl)
+found : (c : After-position) → Blank c.args.input.now c.args.at (c.stop_at-stop.result - c.args.at) c.position.result
+found c = position_from_yields_List is_blank _ _ _ c.position.ensures.ran (YieldsList-from_slice _ cc) (λ x b q k. search (rules, tests))
 
-pub bounds-input-i : goal.bounds-input-i
-bounds-input-i c = omega (arith, c.stop_at-stop.ensures)
+pub returns-in-Some : goal.returns-in-Some
+returns-in-Some c =
+    (blank-at _ _ _ _ c.requires c.stop_at-stop.ensures _ (found (goal.at.returns-in-Some c).After-position) _ c.in-Some.is).1
 
-pub whitespace_byte-requires : goal.whitespace_byte-requires
-whitespace_byte-requires c = tt
-
-pub returns-then-whitespace_byte : goal.returns-then-whitespace_byte
-returns-then-whitespace_byte c =
-    rw length-take (omega (arith, c.stop_at-stop.ensures, ap length (word-stop c.args.input.now c.loop-i.i (omega (arith, c.stop_at-stop.ensures)) (sym c.whitespace_byte.ensures ∙ c.if-whitespace_byte.true))))
-
-pub loop-i-preserved : goal.loop-i-preserved
-loop-i-preserved c = (
-  omega arith,
-  omega arith,
-  omega (arith, ap length (word-step c.args.input.now c.loop-i.i (omega (arith, c.stop_at-stop.ensures)) (sym c.whitespace_byte.ensures ∙ c.if-whitespace_byte.false))),
-)
-
-pub returns : goal.returns
-returns c =
-    let s = c.args.input.now in
-    let i = c.loop-i.i in
-    rw length-take (omega (arith, c.stop_at-stop.ensures, word-le (drop i s), length-drop i s))
+pub returns-in-None : goal.returns-in-None
+returns-in-None c = no-blank _ _ _ _ c.requires c.stop_at-stop.ensures _ (found (goal.at.returns-in-None c).After-position) c.in-None.is

@@ -9,23 +9,23 @@ pub returns-then-n-gt-MOST_ROWS : goal.returns-then-n-gt-MOST_ROWS
 returns-then-n-gt-MOST_ROWS c = sym (too_many _ _ c.if-n-gt-MOST_ROWS.true)
 
 pub loop-i-init : goal.loop-i-init
-loop-i-init c = (omega arith, omega arith, base-start _, under-start _, good_start _ _ c.if-n-gt-MOST_ROWS.false)
+loop-i-init c = (omega arith, base-start _, under-start _, good_start _ _ c.if-n-gt-MOST_ROWS.false)
 
 pub stand-requires : goal.stand-requires
-stand-requires c = let l = c.loop-i in (omega arith, l.invariant.1, l.invariant.2, l.invariant.3)
+stand-requires c = let l = c.loop-i in (omega arith, l.invariant.0, l.invariant.1, l.invariant.2)
 
-pub returns-in-Off : goal.returns-in-Off
-returns-in-Off c =
+pub returns-in-None : goal.returns-in-None
+returns-in-None c =
     let l = c.loop-i in
-    sym (l.invariant.4 ∙ row-off _ _ _ _ _ c.loop-i-test.true (rw c.in-Off.is at c.stand.ensures))
+    sym (l.invariant.3 ∙ row-off _ _ _ _ _ c.loop-i-test.true (rw c.in-None.is at c.stand.ensures))
 
 pub loop-i-preserved : goal.loop-i-preserved
 loop-i-preserved c =
     let l = c.loop-i in
-    let x = rw c.in-On.is at c.stand.ensures in
-    (omega arith, x.deep, x.ends, x.under, l.invariant.4 ∙ row_on _ _ _ _ _ c.loop-i-test.true x)
+    let x = rw c.in-Some.is at c.stand.ensures in
+    (x.deep, x.ends, x.under, l.invariant.3 ∙ row_on _ _ _ _ _ c.loop-i-test.true x)
 
 pub returns : goal.returns
 returns c =
     let l = c.loop-i in
-    sym (l.invariant.4 ∙ last_row _ _ _ _ l.invariant.0 c.loop-i-test.false)
+    sym (l.invariant.3 ∙ last_row _ _ _ _ (omega arith) c.loop-i-test.false)

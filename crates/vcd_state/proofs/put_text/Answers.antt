@@ -4,5 +4,5 @@ use Rattle.vcd_state.proofs.put_text.Goals as goal
 pub returns-in-None : goal.returns-in-None
 returns-in-None c = rw c.in-None.is c.put_three.ensures
 
-pub returns-in-Is : goal.returns-in-Is
-returns-in-Is c = rw c.in-Is.is c.put_three-in-Is.ensures
+pub returns-in-Some : goal.returns-in-Some
+returns-in-Some c = rw c.in-Some.is c.put_three-in-Some.ensures

@@ -1,10 +1,7 @@
 -- Goals of `white_space::leading` that the search leaves.
 use native.Mathlib.Omega.{arith}
-use Rattle.white_space.proofs.Trimming.{skip-start, skip-room, skip-more, skip-last, skip_all}
+use Rattle.white_space.proofs.Trimming.{skip-room, skip-more, skip-last, skip_all}
 use Rattle.white_space.proofs.leading.Goals as goal
-
-pub loop-i-init : goal.loop-i-init
-loop-i-init c = skip-start _
 
 pub returns-then-n-eq0 : goal.returns-then-n-eq0
 returns-then-n-eq0 c = skip-last _ _ _ c.loop-i.invariant c.blank_at-n.ensures c.if-n-eq0.true

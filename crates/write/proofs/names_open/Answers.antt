@@ -8,6 +8,6 @@ pub returns-in-None : goal.returns-in-None
 unfolding is_open
 returns-in-None c = rw c.in-None.is
 
-pub returns-in-Of : goal.returns-in-Of
+pub returns-in-Some : goal.returns-in-Some
 unfolding is_open
-returns-in-Of c = rw c.in-Of.is (ap₂ eqb c.number.ensures c.number-in-Of.ensures)
+returns-in-Some c = rw c.in-Some.is (ap₂ eqb c.number.ensures c.number-in-Some.ensures)

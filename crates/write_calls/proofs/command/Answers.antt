@@ -10,27 +10,27 @@ unfolding command_call
 returns-then-words-ne-WORDS c = rw (ne_eqb _ _ c.if-words-ne-WORDS.true) (record { status = refl; writer = refl; out = refl; count = refl })
 
 pub wrote-requires : goal.wrote-requires
-wrote-requires c = writer-three _ c.writer_of.ensures c.in-Is.is
+wrote-requires c = writer-three _ c.writer_of.ensures c.in-Some.is
 
-pub returns-in-Is-record_at : goal.returns-in-Is-record_at
+pub returns-in-Some-record_at : goal.returns-in-Some-record_at
 unfolding command_call
-returns-in-Is-record_at c =
+returns-in-Some-record_at c =
     rw (
       eq-eqb _ _ c.if-words-ne-WORDS.false,
-      sym c.writer_of.ensures ∙ c.in-Is.is,
-      sym c.record_at.ensures ∙ c.in-Is-record_at.is,
+      sym c.writer_of.ensures ∙ c.in-Some.is,
+      sym c.record_at.ensures ∙ c.in-Some-record_at.is,
       ← c.command.ensures.answers,
     ) (record { status = c.wrote.ensures.status; writer = c.wrote.ensures.writer; out = c.command.ensures.leaves; count = c.wrote.ensures.count })
 
-pub returns-in-None : goal.returns-in-None
+pub returns-in-None-record_at : goal.returns-in-None-record_at
 unfolding command_call
-returns-in-None c =
+returns-in-None-record_at c =
     rw (
       eq-eqb _ _ c.if-words-ne-WORDS.false,
-      sym c.writer_of.ensures ∙ c.in-Is.is,
-      sym c.record_at.ensures ∙ c.in-None.is,
+      sym c.writer_of.ensures ∙ c.in-Some.is,
+      sym c.record_at.ensures ∙ c.in-None-record_at.is,
     ) (record { status = refl; writer = refl; out = refl; count = refl })
 
-pub returns-in-Bad : goal.returns-in-Bad
+pub returns-in-None : goal.returns-in-None
 unfolding command_call
-returns-in-Bad c = rw (eq-eqb _ _ c.if-words-ne-WORDS.false, sym c.writer_of.ensures ∙ c.in-Bad.is) (record { status = refl; writer = refl; out = refl; count = refl })
+returns-in-None c = rw (eq-eqb _ _ c.if-words-ne-WORDS.false, sym c.writer_of.ensures ∙ c.in-None.is) (record { status = refl; writer = refl; out = refl; count = refl })

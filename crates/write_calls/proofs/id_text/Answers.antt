@@ -8,10 +8,10 @@ pub returns-then-code-eq-NONE : goal.returns-then-code-eq-NONE
 unfolding id_status id_bytes id_count
 returns-then-code-eq-NONE c = rw (eq-eqb _ _ c.if-code-eq-NONE.true) (record { status = refl; out = refl; count = refl })
 
-pub returns-in-Count : goal.returns-in-Count
+pub returns-in-Some : goal.returns-in-Some
 unfolding id_status id_bytes id_count
-returns-in-Count c = rw (ne_eqb _ _ c.if-code-eq-NONE.false, ← c.put.ensures.0, c.in-Count.is) (record { status = refl; out = c.put.ensures.1; count = refl })
+returns-in-Some c = rw (ne_eqb _ _ c.if-code-eq-NONE.false, ← c.put.ensures.0, c.in-Some.is) (record { status = refl; out = c.put.ensures.1; count = refl })
 
-pub returns-in-NoRoom : goal.returns-in-NoRoom
+pub returns-in-None : goal.returns-in-None
 unfolding id_status id_bytes id_count
-returns-in-NoRoom c = rw (ne_eqb _ _ c.if-code-eq-NONE.false, ← c.put.ensures.0, c.in-NoRoom.is) (record { status = refl; out = c.put.ensures.1; count = refl })
+returns-in-None c = rw (ne_eqb _ _ c.if-code-eq-NONE.false, ← c.put.ensures.0, c.in-None.is) (record { status = refl; out = c.put.ensures.1; count = refl })

@@ -2,5 +2,5 @@
 use mathlib.Core.Path.{refl}
 use Rattle.write_calls.proofs.rewrite_status.Goals as goal
 
-pub returns-in-Refused : goal.returns-in-Refused
-returns-in-Refused c = rw c.in-Refused.is (record { status = c.number.ensures; line = refl })
+pub returns-in-Err : goal.returns-in-Err
+returns-in-Err c = rw c.in-Err.is (record { status = c.number.ensures; line = refl })

@@ -5,21 +5,21 @@ use Rattle.vcd_state.proofs.Taken.{writer-three}
 use Rattle.write_calls.proofs.write_header.Goals as goal
 
 pub wrote_header-requires : goal.wrote_header-requires
-wrote_header-requires c = writer-three _ c.writer_of.ensures c.in-Is.is
+wrote_header-requires c = writer-three _ c.writer_of.ensures c.in-Some.is
 
-pub returns-in-Is-head_of : goal.returns-in-Is-head_of
+pub returns-in-Some-head_of : goal.returns-in-Some-head_of
 unfolding write_header_call
-returns-in-Is-head_of c =
+returns-in-Some-head_of c =
     rw (
-      sym c.writer_of.ensures ∙ c.in-Is.is,
-      sym c.head_of.ensures ∙ c.in-Is-head_of.is,
+      sym c.writer_of.ensures ∙ c.in-Some.is,
+      sym c.head_of.ensures ∙ c.in-Some-head_of.is,
       ← c.header.ensures.answers,
     ) (record { status = c.wrote_header.ensures.status; writer = c.wrote_header.ensures.writer; out = c.header.ensures.leaves; count = c.wrote_header.ensures.count })
 
-pub returns-in-Bad-head_of : goal.returns-in-Bad-head_of
+pub returns-in-None-head_of : goal.returns-in-None-head_of
 unfolding write_header_call
-returns-in-Bad-head_of c = rw (sym c.writer_of.ensures ∙ c.in-Is.is, sym c.head_of.ensures ∙ c.in-Bad-head_of.is) (record { status = refl; writer = refl; out = refl; count = refl })
+returns-in-None-head_of c = rw (sym c.writer_of.ensures ∙ c.in-Some.is, sym c.head_of.ensures ∙ c.in-None-head_of.is) (record { status = refl; writer = refl; out = refl; count = refl })
 
-pub returns-in-Bad : goal.returns-in-Bad
+pub returns-in-None : goal.returns-in-None
 unfolding write_header_call
-returns-in-Bad c = rw (sym c.writer_of.ensures ∙ c.in-Bad.is) (record { status = refl; writer = refl; out = refl; count = refl })
+returns-in-None c = rw (sym c.writer_of.ensures ∙ c.in-None.is) (record { status = refl; writer = refl; out = refl; count = refl })

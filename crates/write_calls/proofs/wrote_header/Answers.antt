@@ -2,8 +2,8 @@
 use mathlib.Core.Path.{refl}
 use Rattle.write_calls.proofs.wrote_header.Goals as goal
 
-pub returns-in-Bytes : goal.returns-in-Bytes
-returns-in-Bytes c = rw c.in-Bytes.is (record { status = refl; writer = c.put_writer.ensures; count = refl })
+pub returns-in-Ok : goal.returns-in-Ok
+returns-in-Ok c = rw c.in-Ok.is (record { status = refl; writer = c.put_writer.ensures; count = refl })
 
-pub returns-in-Refused : goal.returns-in-Refused
-returns-in-Refused c = rw c.in-Refused.is (record { status = c.number.ensures; writer = c.put_writer-in-Refused.ensures; count = refl })
+pub returns-in-Err : goal.returns-in-Err
+returns-in-Err c = rw c.in-Err.is (record { status = c.number.ensures; writer = c.put_writer-in-Err.ensures; count = refl })

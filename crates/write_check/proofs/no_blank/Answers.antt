@@ -1,21 +1,17 @@
 -- Goals of `write_check::no_blank` that the search leaves.
-use mathlib.Core.Path.{refl, sym, ◌∙◌}
-use borrow.Author.Rules.{rules}
-use Rattle.write_check.proofs.Checks.{blank-more, blank-stop, blank-done}
+use mathlib.Core.Path.{refl, ◌∙◌}
+use mathlib.Core.Bool.{not, ◌&&◌}
+use borrow.Author.Tests.{tests}
+use Rattle.std.proofs.Common.{rules}
+use Rattle.std.specs.List.{list_all}
+use Rattle.std.proofs.lemmas.Iterator.{YieldsList-from_slice}
+use Rattle.std.proofs.lemmas.Iterator.Search.{all_from_yields_List}
+use Rattle.std.proofs.lemmas.List.Recursion.{same_from_clauses}
+use Rattle.text.specs.Bytes.{is_blank, no_blank}
 use Rattle.write_check.proofs.no_blank.Goals as goal
 
-pub loop-i-init : goal.loop-i-init
-loop-i-init c = (search rules, refl)
-
-pub returns-then-whitespace_byte : goal.returns-then-whitespace_byte
-returns-then-whitespace_byte c =
-    let blank = sym c.whitespace_byte.ensures ∙ c.if-whitespace_byte.true in
-    sym (c.loop-i.invariant.1 ∙ blank-stop _ _ c.loop-i-test.true blank)
-
-pub loop-i-preserved : goal.loop-i-preserved
-loop-i-preserved c =
-    let none = sym c.whitespace_byte.ensures ∙ c.if-whitespace_byte.false in
-    (search rules, c.loop-i.invariant.1 ∙ sym (blank-more _ _ c.loop-i-test.true none))
-
 pub returns : goal.returns
-returns c = sym (c.loop-i.invariant.1 ∙ blank-done _ _ c.loop-i-test.false)
+unfolding no_blank
+returns c =
+    all_from_yields_List (λ b. not (is_blank b)) _ _ _ c.all.ensures.ran (YieldsList-from_slice c.args.s.now cc) (λ x b q k. search (rules, tests))
+    ∙ same_from_clauses (list_all (λ b. not (is_blank b))) no_blank (λ b t. not (is_blank b) && t) refl (λ b s. refl) (λ b s. refl) c.args.s.now

@@ -22,13 +22,13 @@ write_item-write_one-requires t c =
 pub write_item-write_scope-requires : goal.write_item-write_scope-requires
 write_item-write_scope-requires t c =
     let p = c.requires in
-    let x = rw c.in-Through.is at c.write_one.ensures in
+    let x = rw c.in-Ok.is at c.write_one.ensures in
     (omega (arith, c.decreases, c.if-levels-eq0.false), (omega (arith, x.0, p.0), p.1, omega (arith, p.2), x.1, p.4))
 
 pub write_item-close-requires : goal.write_item-close-requires
 write_item-close-requires t c =
     let a = c.args in
-    (fits a.src.now a.rows.now a.n (a.levels - 1) a.i c.in-Through.next c.write_one.new.out c.in-Through.past c.in-Through.v c.write_scope.result c.write_scope.new.out c.write_scope.ensures, c.requires.4.short)
+    (fits a.src.now a.rows.now a.n (a.levels - 1) a.i c.in-Ok.next c.write_one.new.out c.in-Ok.past c.in-Ok.v c.write_scope.result c.write_scope.new.out c.write_scope.ensures, c.requires.4.short)
 
 pub write_item-write_vars-requires : goal.write_item-write_vars-requires
 write_item-write_vars-requires t c =
@@ -40,20 +40,20 @@ write_item-write_one-requires-in-Comment t c =
     let p = c.requires in
     (p.3, comment-placed _ _ _ _ p.4 p.0 (sym c.row_at.ensures ∙ c.in-Comment.is))
 
-pub write_item-returns-in-Through : goal.write_item-returns-in-Through
-write_item-returns-in-Through t c =
+pub write_item-returns-in-Ok : goal.write_item-returns-in-Ok
+write_item-returns-in-Ok t c =
     let a = c.args in
     let p = c.requires in
-    let x = rw c.in-Through.is at c.write_one.ensures in
+    let x = rw c.in-Ok.is at c.write_one.ensures in
     nested a.src.now a.rows.now a.n a.levels a.i a.out.now a.at a.w p.0
     (sym c.row_at.ensures ∙ c.in-Scope.is) (omega (arith, p.0, p.1)) c.if-levels-eq0.false _ _ _ x.2
     c.write_scope.result c.close.result _ _ (rw x.0 at c.write_scope.ensures) c.close.ensures
 
-pub write_item-returns-in-Refused : goal.write_item-returns-in-Refused
-write_item-returns-in-Refused t c =
+pub write_item-returns-in-Err : goal.write_item-returns-in-Err
+write_item-returns-in-Err t c =
     let a = c.args in
     not_opened a.src.now a.rows.now a.n a.levels a.i a.out.now a.at a.w c.requires.0
-    (sym c.row_at.ensures ∙ c.in-Scope.is) _ (rw c.in-Refused.is at c.write_one.ensures)
+    (sym c.row_at.ensures ∙ c.in-Scope.is) _ (rw c.in-Err.is at c.write_one.ensures)
 
 pub write_item-returns-in-Var : goal.write_item-returns-in-Var
 write_item-returns-in-Var t c = c.write_vars.ensures c.args.levels
@@ -88,14 +88,14 @@ write_scope-write_item-requires t c =
 
 pub write_scope-loop-i-smaller : goal.write_scope-loop-i-smaller
 write_scope-loop-i-smaller t c =
-    let w = rw c.in-Through.is at c.write_item.ensures in
+    let w = rw c.in-Ok.is at c.write_item.ensures in
     omega (arith, w.0, w.1)
 
 pub write_scope-loop-i-preserved : goal.write_scope-loop-i-preserved
 write_scope-loop-i-preserved t c =
     let a = c.args in
     let l = c.loop-i in
-    let w = rw c.in-Through.is at c.write_item.ensures in (
+    let w = rw c.in-Ok.is at c.write_item.ensures in (
       omega (arith, w.0, l.invariant.0),
       w.1,
       w.2,
@@ -104,12 +104,12 @@ write_scope-loop-i-preserved t c =
           l.invariant.4 (sym c.parent_at.ensures ∙ c.if-parent_at-me.false) _ _ _ _ w.3,
     )
 
-pub write_scope-returns-in-Refused : goal.write_scope-returns-in-Refused
-write_scope-returns-in-Refused t c =
+pub write_scope-returns-in-Err : goal.write_scope-returns-in-Err
+write_scope-returns-in-Err t c =
     let a = c.args in
     let l = c.loop-i in
     goes-out a.src.now a.rows.now a.n a.levels a.me a.from a.out.now a.at a.w l.i l.out l.place l.v
-    l.invariant.4 (sym c.parent_at.ensures ∙ c.if-parent_at-me.false) _ (rw c.in-Refused.is at c.write_item.ensures)
+    l.invariant.4 (sym c.parent_at.ensures ∙ c.if-parent_at-me.false) _ (rw c.in-Err.is at c.write_item.ensures)
 
 pub write_scope-returns : goal.write_scope-returns
 write_scope-returns t c =

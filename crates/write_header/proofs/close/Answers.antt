@@ -3,10 +3,10 @@ use mathlib.Core.Path.{refl}
 use Rattle.write_header.proofs.close.Goals as goal
 
 pub write_one-requires : goal.write_one-requires
-write_one-requires c = (rw c.in-Through.is at c.requires.0, c.requires.1)
+write_one-requires c = (rw c.in-Ok.is at c.requires.0, c.requires.1)
 
-pub returns-in-Through : goal.returns-in-Through
-returns-in-Through c = rw c.in-Through.is c.write_one.ensures
+pub returns-in-Ok : goal.returns-in-Ok
+returns-in-Ok c = rw c.in-Ok.is c.write_one.ensures
 
-pub returns-in-Refused : goal.returns-in-Refused
-returns-in-Refused c = rw c.in-Refused.is (refl, refl)
+pub returns-in-Err : goal.returns-in-Err
+returns-in-Err c = rw c.in-Err.is (refl, refl)

@@ -25,19 +25,19 @@ pub write_rows-requires : goal.write_rows-requires
 write_rows-requires c =
     let a = c.args in
     let x = inside a.src.now a.h a.rows.now a.count (sym c.misplaced.ensures ∙ c.if-misplaced.false) in
-    let y = rw c.in-Through.is at c.write_kept.ensures in
+    let y = rw c.in-Ok.is at c.write_kept.ensures in
     (y.1, x.2, sym c.good_table.ensures ∙ c.if-not-good_table.false)
 
-pub returns-in-Through : goal.returns-in-Through
-returns-in-Through c =
+pub returns-in-Ok : goal.returns-in-Ok
+returns-in-Ok c =
     let a = c.args in
-    let y = rw c.in-Through.is at c.write_kept.ensures in
+    let y = rw c.in-Ok.is at c.write_kept.ensures in
     let q = call-pours a.w a.src.now a.h a.rows.now a.count a.out.now (sym c.misplaced.ensures ∙ c.if-misplaced.false) (sym c.good_table.ensures ∙ c.if-not-good_table.false) in
     does-too (q ∙ y.2 (row_meanings a.src.now 0 [] (rows_of a.rows.now a.count))) c.write_rows.ensures
 
-pub returns-in-Refused : goal.returns-in-Refused
-returns-in-Refused c =
+pub returns-in-Err : goal.returns-in-Err
+returns-in-Err c =
     let a = c.args in
-    let y = rw c.in-Refused.is at c.write_kept.ensures in
+    let y = rw c.in-Err.is at c.write_kept.ensures in
     let q = call-pours a.w a.src.now a.h a.rows.now a.count a.out.now (sym c.misplaced.ensures ∙ c.if-misplaced.false) (sym c.good_table.ensures ∙ c.if-not-good_table.false) in
     of-outcome (stop _ _ _ _) (q ∙ y (row_meanings a.src.now 0 [] (rows_of a.rows.now a.count)))

@@ -12,25 +12,25 @@ write_scope-requires c =
 
 pub write_one-requires : goal.write_one-requires
 write_one-requires c =
-    let x = rw c.in-Through.is at c.write_scope.ensures in
+    let x = rw c.in-Ok.is at c.write_scope.ensures in
     (x.2, c.requires.1.short)
 
-pub returns-in-Through-write_one : goal.returns-in-Through-write_one
-returns-in-Through-write_one c =
+pub returns-in-Ok-write_one : goal.returns-in-Ok-write_one
+returns-in-Ok-write_one c =
     let a = c.args in
     end_whole a.src.now a.rows.now a.n a.out.now a.at a.w c.requires.2
-    c.in-Through.field-0 c.in-Through.past c.in-Through.v c.write_scope.new.out
-    (rw c.in-Through.is at c.write_scope.ensures) (rw c.in-Through-write_one.is at c.write_one.ensures)
+    c.in-Ok.field-0-0 c.in-Ok.past c.in-Ok.v c.write_scope.new.out
+    (rw c.in-Ok.is at c.write_scope.ensures) (rw c.in-Ok-write_one.is at c.write_one.ensures)
 
-pub returns-in-Refused-write_one : goal.returns-in-Refused-write_one
-returns-in-Refused-write_one c =
+pub returns-in-Err-write_one : goal.returns-in-Err-write_one
+returns-in-Err-write_one c =
     let a = c.args in
     end-stop a.src.now a.rows.now a.n a.out.now a.at a.w c.requires.2
-    c.in-Through.field-0 c.in-Through.past c.in-Through.v c.write_scope.new.out
-    (rw c.in-Through.is at c.write_scope.ensures) (rw c.in-Refused-write_one.is at c.write_one.ensures)
+    c.in-Ok.field-0-0 c.in-Ok.past c.in-Ok.v c.write_scope.new.out
+    (rw c.in-Ok.is at c.write_scope.ensures) (rw c.in-Err-write_one.is at c.write_one.ensures)
 
-pub returns-in-Refused : goal.returns-in-Refused
-returns-in-Refused c =
+pub returns-in-Err : goal.returns-in-Err
+returns-in-Err c =
     let a = c.args in
     rows-stop a.src.now a.rows.now a.n a.out.now a.at a.w c.requires.2
-    (rw c.in-Refused.is at c.write_scope.ensures)
+    (rw c.in-Err.is at c.write_scope.ensures)

@@ -8,5 +8,5 @@ write_one-requires c = c.requires
 pub returns-in-None : goal.returns-in-None
 returns-in-None c = rw c.in-None.is (refl, c.requires.0, λ more. refl)
 
-pub returns-in-Is : goal.returns-in-Is
-returns-in-Is c = rw c.in-Is.is c.write_one.ensures
+pub returns-in-Some : goal.returns-in-Some
+returns-in-Some c = rw c.in-Some.is c.write_one.ensures

@@ -18,14 +18,14 @@ write_var-requires c =
 
 pub loop-i-smaller : goal.loop-i-smaller
 loop-i-smaller c =
-    let x = rw c.in-Through.is at c.write_var.ensures in
+    let x = rw c.in-Ok.is at c.write_var.ensures in
     omega (arith, x.0, c.loop-i-test.true)
 
 pub loop-i-preserved : goal.loop-i-preserved
 loop-i-preserved c =
     let a = c.args in
     let l = c.loop-i in
-    let x = rw c.in-Through.is at c.write_var.ensures in (
+    let x = rw c.in-Ok.is at c.write_var.ensures in (
       omega (arith, x.0, l.invariant.0),
       omega (arith, x.0, c.loop-i-test.true),
       x.1,
@@ -35,14 +35,14 @@ loop-i-preserved c =
           c.parent_at-me.ensures (sym c.is_var_of.ensures ∙ c.if-is_var_of.true) l.invariant.4 _ _ _ _ x,
     )
 
-pub returns-in-Refused : goal.returns-in-Refused
-returns-in-Refused c =
+pub returns-in-Err : goal.returns-in-Err
+returns-in-Err c =
     let a = c.args in
     let l = c.loop-i in
     no_more a.src.now a.rows.now a.n a.from a.out.now a.at a.w l.i l.out l.place l.v
     c.loop-i-test.true c.var_at.ensures
     c.parent_at-me.ensures (sym c.is_var_of.ensures ∙ c.if-is_var_of.true) l.invariant.4 _ _ _ _
-    (rw c.in-Refused.is at c.write_var.ensures)
+    (rw c.in-Err.is at c.write_var.ensures)
 
 pub returns-else-is_var_of : goal.returns-else-is_var_of
 returns-else-is_var_of c =

@@ -4,10 +4,10 @@ use Rattle.write_header.proofs.Places.{placed}
 use Rattle.write_header.proofs.write_version.Goals as goal
 
 pub write_one-requires : goal.write_one-requires
-write_one-requires c = (c.requires.0, placed _ _ c.requires.1 (rw c.in-Is.is at c.requires.2))
+write_one-requires c = (c.requires.0, placed _ _ c.requires.1 (rw c.in-Some.is at c.requires.2))
 
 pub returns-in-None : goal.returns-in-None
 returns-in-None c = rw c.in-None.is (refl, c.requires.0, λ more. refl)
 
-pub returns-in-Is : goal.returns-in-Is
-returns-in-Is c = rw c.in-Is.is c.write_one.ensures
+pub returns-in-Some : goal.returns-in-Some
+returns-in-Some c = rw c.in-Some.is c.write_one.ensures

@@ -1,9 +1,8 @@
 -- What the loops of `idcode::IdCode::from_str` keep.
+use Prim.Native.Nat.{◌-◌}
+use lib.ListN.{length}
 use Rattle.idcode.proofs.Reading.{ReadFrom}
 use Rattle.idcode.proofs.IdCode.from_str.Given as goal
 
-abbrev pub invariant-loop-i : goal.invariant-loop-i
-invariant-loop-i l = ReadFrom l.s l.i l.sum
-
-abbrev pub decreases-loop-i : goal.decreases-loop-i
-decreases-loop-i l = l.i
+abbrev pub invariant-loop-b : goal.invariant-loop-b
+invariant-loop-b l = ReadFrom l.s (length l.s - length l.yielded) l.sum

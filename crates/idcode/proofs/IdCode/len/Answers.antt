@@ -4,9 +4,6 @@ use Rattle.idcode.proofs.Laws.{text-length}
 use Rattle.idcode.proofs.Spelling.{length-one, length_more}
 use Rattle.idcode.proofs.IdCode.len.Goals as goal
 
-pub loop-rest-init : goal.loop-rest-init
-loop-rest-init c = omega arith
-
 pub overflow_add-n : goal.overflow_add-n
 overflow_add-n c = omega (arith, text-length c.args.self.0 (omega arith))
 

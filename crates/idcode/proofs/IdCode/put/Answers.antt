@@ -2,7 +2,7 @@
 use Prim.Native.Nat.{◌≤◌}
 use native.Mathlib.Omega.{arith}
 use borrow.Author.Tests.{ltb-true}
-use lib.ListN.{length, length-set}
+use lib.ListN.{length}
 use Rattle.text.proofs.Rows.{copy_start, copy-length, no_room}
 use Rattle.idcode.specs.Id.{id_text}
 use Rattle.idcode.proofs.Laws.{text-length}
@@ -24,17 +24,8 @@ loop-rest-init c =
 pub bounds-out-n : goal.bounds-out-n
 bounds-out-n c = let i = c.loop-rest.invariant in omega (arith, inside _ _ _ i.0, copy-length _ _ _ _ i.1)
 
-pub overflow_add-n : goal.overflow_add-n
-overflow_add-n c = omega (arith, inside _ _ _ c.loop-rest.invariant.0)
-
-pub shape_of-out-then-more-eq0 : goal.shape_of-out-then-more-eq0
-shape_of-out-then-more-eq0 c = simp length-set (copy-length _ _ _ _ c.loop-rest.invariant.1)
-
 pub returns-then-more-eq0 : goal.returns-then-more-eq0
 returns-then-more-eq0 c = let i = c.loop-rest.invariant in copied _ _ _ i.0 i.1 (omega arith)
 
 pub loop-rest-preserved : goal.loop-rest-preserved
 loop-rest-preserved c = let i = c.loop-rest.invariant in (spell-more _ _ _ i.0 (omega arith), copy-next _ _ _ i.0 i.1)
-
-pub overflow_mul-out : goal.overflow_mul-out
-overflow_mul-out c = record { fits = omega (arith, c.loop-rest.invariant.0.small) }

@@ -3,40 +3,13 @@ use Rattle.std.proofs.Common.{sym, ◌∙◌, arith}
 use Rattle.parser_part.proofs.FastWords.{id-start, id-more, id-end, power-fits, product-fits}
 use Rattle.parser_part.proofs.word.fast_long_id.Goals as goal
 
-pub wide-sum-requires : goal.wide-sum-requires
-wide-sum-requires c = tt
-
-pub overflow_sub-sum : goal.overflow_sub-sum
-overflow_sub-sum c = omega (arith, c.wide-sum.ensures)
-
 pub loop-i-init : goal.loop-i-init
 loop-i-init c =
     rw c.wide-sum.ensures (id-start c.args.input.now c.args.at (omega arith) (omega arith) (omega arith))
 
-pub whitespace_byte-requires : goal.whitespace_byte-requires
-whitespace_byte-requires c = tt
-
-pub overflow_sub-result : goal.overflow_sub-result
-overflow_sub-result c = c.loop-i.invariant.positive
-
 pub returns-then-whitespace_byte : goal.returns-then-whitespace_byte
 returns-then-whitespace_byte c =
     id-end _ _ _ _ _ c.loop-i.invariant c.loop-i-test.true (sym c.whitespace_byte.ensures ∙ c.if-whitespace_byte.true)
-
-pub returns-then-b-lt33 : goal.returns-then-b-lt33
-returns-then-b-lt33 c = tt
-
-pub returns-then-b-gt126 : goal.returns-then-b-gt126
-returns-then-b-gt126 c = tt
-
-pub returns-then-at-i : goal.returns-then-at-i
-returns-then-at-i c = tt
-
-pub wide-requires : goal.wide-requires
-wide-requires c = tt
-
-pub overflow_sub-sum-in-loop-i : goal.overflow_sub-sum-in-loop-i
-overflow_sub-sum-in-loop-i c = omega (arith, c.wide.ensures)
 
 pub overflow_mul-sum : goal.overflow_mul-sum
 overflow_mul-sum c =
@@ -55,6 +28,3 @@ pub loop-i-preserved : goal.loop-i-preserved
 loop-i-preserved c =
     let more = id-more _ _ _ _ _ c.loop-i.invariant c.loop-i-test.true c.if-at-i.false c.if-b-lt33.false c.if-b-gt126.false in
     rw c.wide.ensures more
-
-pub returns : goal.returns
-returns c = tt

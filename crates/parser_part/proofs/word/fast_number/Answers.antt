@@ -3,35 +3,11 @@ use Rattle.std.proofs.Common.{arith}
 use Rattle.parser_part.proofs.FastWords.{digits-start, digits_more, digits-judged, digits-fit}
 use Rattle.parser_part.proofs.word.fast_number.Goals as goal
 
-pub returns-then-stop-at : goal.returns-then-stop-at
-returns-then-stop-at c = tt
-
-pub bounds-input-at : goal.bounds-input-at
-bounds-input-at c = omega (arith, c.least-stop.ensures)
-
-pub returns-then-first-lt48 : goal.returns-then-first-lt48
-returns-then-first-lt48 c = tt
-
-pub returns-then-first-gt57 : goal.returns-then-first-gt57
-returns-then-first-gt57 c = tt
-
-pub wide-v-requires : goal.wide-v-requires
-wide-v-requires c = tt
-
-pub overflow_sub-v : goal.overflow_sub-v
-overflow_sub-v c = omega (arith, c.wide-v.ensures)
-
 pub loop-i-init : goal.loop-i-init
 loop-i-init c =
     let s = c.args.input.now in
     let e = c.least-stop.ensures in
     (omega arith, omega arith, rw c.wide-v.ensures (digits-start s c.args.at (omega arith) c.if-first-lt48.false c.if-first-gt57.false))
-
-pub digit-d-requires : goal.digit-d-requires
-digit-d-requires c = tt
-
-pub number_end-requires : goal.number_end-requires
-number_end-requires c = tt
 
 pub returns-then-d-gt9 : goal.returns-then-d-gt9
 returns-then-d-gt9 c = rw c.number_end.ensures (digits-judged _ _ _ _ c.loop-i.invariant.2 (omega arith))
@@ -47,6 +23,3 @@ loop-i-preserved c =
     let inv = c.loop-i.invariant in
     let d = c.digit-d.ensures c.if-d-gt9.false in
     (inv.0, inv.1, rw d.2 (digits_more _ _ _ _ inv.2 (omega arith) (omega arith) d.0 d.1))
-
-pub returns : goal.returns
-returns c = tt

@@ -1,9 +1,9 @@
 -- Goals of `record::RecordWords::command` that the search leaves.
+use Rattle.std.specs.Prelude.{Some}
 use mathlib.Core.Path.{sym, ap, ◌∙◌}
 use borrow.Author.Tests.{eq-eqb, ne_eqb}
 use Rattle.rows.specs.Rows.{all_zero}
 use Rattle.record.specs.Record.{command_of}
-use Rattle.record.specs.declared.Recorded.{Recorded}
 use Rattle.record.proofs.Uses.{used, var-row}
 use Rattle.record.proofs.RecordWords.command.Goals as goal
 use Rattle.record.proofs.RecordWords.command.Goals.{then-self-ne0-via-then-self-ne0, then-self-ne0-via-else-self-ne0+then-self-ne0-2, then-self-ne0-via-else-self-ne0+else-self-ne0-2+then-self-ne0-3}
@@ -51,4 +51,4 @@ returns c =
       ← c.is_used.ensures,
       c.if-not-is_used.false,
     )
-    (ap Recorded.Is c.made.ensures)
+    (ap Some c.made.ensures)

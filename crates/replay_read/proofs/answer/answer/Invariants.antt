@@ -1,11 +1,6 @@
--- What the loops of `replay_read::answer::answer` keep.
-use Prim.Native.Nat.{◌-◌, ◌≤◌}
-use mathlib.Core.Path.{◌≡◌}
-use lib.ListN.{length}
+-- What the loop of `replay_read::answer::answer` keeps.
+use Rattle.std.proofs.Common.{◌≤◌}
 use Rattle.replay_read.proofs.answer.answer.Given as goal
 
-abbrev pub invariant-loop-turns : goal.invariant-loop-turns
-invariant-loop-turns l = (l.count ≤ 3) × (l.turns ≤ 4294967296) × (length l.out ≡ length l.initial.out)
-
-abbrev pub decreases-loop-turns : goal.decreases-loop-turns
-decreases-loop-turns l = 4294967296 - l.turns
+abbrev pub invariant-loop : goal.invariant-loop
+invariant-loop l = l.count ≤ 3

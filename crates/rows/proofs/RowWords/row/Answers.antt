@@ -1,6 +1,6 @@
 -- Goals of `rows::RowWords::row` that the search leaves.
 use mathlib.Core.Path.{sym, ◌∙◌}
-use Rattle.rows.proofs.Peeking.{is-scope, is-var, is-comment, is_none}
+use Rattle.rows.proofs.Peeking.{is-scope, is-var, is-comment}
 use Rattle.rows.proofs.RowWords.row.Goals as goal
 
 pub var-requires : goal.var-requires
@@ -18,9 +18,3 @@ returns-in-2 c =
 
 pub returns-in-3 : goal.returns-in-3
 returns-in-3 c = rw c.parent_of-in-3.ensures (sym (is-comment _ (sym c.row_kind.ensures ∙ c.in-3.is)))
-
-pub returns-in_default : goal.returns-in_default
-returns-in_default c =
-    let k = c.row_kind.ensures in
-    let no = c.in_default.in_default-own.rest in
-    sym (is_none _ (λ e. no.0.0.1 (k ∙ e)) (λ e. no.0.1 (k ∙ e)) (λ e. no.1 (k ∙ e)))

@@ -2,7 +2,7 @@
 use Prim.Native.Nat.{◌/◌, ◌<◌}
 use mathlib.Core.Path.{sym, ◌∙◌}
 use lib.ListN.{length}
-use Rattle.rows.proofs.Peeking.{no_row, row-held}
+use Rattle.rows.proofs.Peeking.{row-held}
 use borrow.Author.Rules.{rules}
 use Rattle.rows.proofs.peek.parent_at.Goals as goal
 use Rattle.rows.proofs.peek.parent_at.Goals.{Else-kind_at-eq0}
@@ -10,9 +10,6 @@ use Rattle.rows.proofs.peek.parent_at.Goals.{Else-kind_at-eq0}
 -- row i is one, and so it stands in the table
 inside : (c : Else-kind_at-eq0) → c.args.i < length c.args.rows.now / 10
 inside c = (row-held _ _ (λ e. c.if-kind_at-eq0.false (c.kind_at.ensures ∙ e))).0
-
-pub returns-then-kind_at-eq0 : goal.returns-then-kind_at-eq0
-returns-then-kind_at-eq0 c = sym (no_row _ _ (sym c.kind_at.ensures ∙ c.if-kind_at-eq0.true))
 
 pub overflow_mul-result : goal.overflow_mul-result
 overflow_mul-result c = let h = inside (goal.at.overflow_mul-result c).Else-kind_at-eq0 in search rules

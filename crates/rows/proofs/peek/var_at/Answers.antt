@@ -17,9 +17,6 @@ var c = sym c.kind_at.ensures ∙ c.if-kind_at-ne-VAR.false
 inside : (c : Else-kind_at-ne-VAR) → c.args.i < length c.args.rows.now / 10
 inside c = (row-held c.args.rows.now c.args.i (λ e. omega (arith, e, var c))).0
 
-pub var-requires : goal.var-requires
-var-requires c = rw c.no_words.ensures (omega arith)
-
 pub returns-then-kind_at-ne-VAR : goal.returns-then-kind_at-ne-VAR
 returns-then-kind_at-ne-VAR c =
     c.var.ensures ∙ ap var_of c.no_words.ensures ∙ zeros-var

@@ -2,8 +2,8 @@
 use Rattle.write.proofs.Outcomes.{added_of}
 use Rattle.write.proofs.Writer.add_var.Goals as goal
 
-pub returns-in-Bytes : goal.returns-in-Bytes
-returns-in-Bytes c = rw c.in-Bytes.is at (added_of c.args.self.id c.var_def.ensures)
+pub returns-in-Ok : goal.returns-in-Ok
+returns-in-Ok c = rw c.in-Ok.is at (added_of c.args.self.id c.var_def.ensures)
 
-pub returns-in-Refused : goal.returns-in-Refused
-returns-in-Refused c = rw c.in-Refused.is at (added_of c.args.self.id c.var_def.ensures)
+pub returns-in-Err : goal.returns-in-Err
+returns-in-Err c = rw c.in-Err.is at (added_of c.args.self.id c.var_def.ensures)

@@ -1,5 +1,0 @@
--- Goals of `rows::var_words` that the search leaves.
-use Rattle.rows.proofs.var_words.Goals as goal
-
-pub returns : goal.returns
-returns c = rw (c.number.ensures, c.index_form.ensures, c.first_word.ensures, c.second_word.ensures)
