@@ -1,6 +1,5 @@
 // Reading: the wires are found by their names, and each falling edge of the clock takes the data's value.
 use command::Command;
-use find::FoundRow;
 use idcode::IdCode;
 use parser::Next;
 use rows::Row;
@@ -34,11 +33,11 @@ pub fn read_clocked_vcd(input: &[u8]) -> u32 {
 // The code of a wire.
 fn wire(input: &[u8], rows: &[u64], count: usize, path: &[u8]) -> Option<IdCode> {
     match find::find_var(input, rows, count, path) {
-        FoundRow::At(n) => match rows::row_at(rows, n.0 as usize) {
+        Ok(Some(n)) => match rows::row_at(rows, n.0 as usize) {
             Row::Var(_, v) => Some(v.code),
             Row::Scope(_, _, _) | Row::Comment(_, _) | Row::None => None,
         },
-        FoundRow::None | FoundRow::Refused(_) => None,
+        Ok(None) | Err(_) => None,
     }
 }
 

@@ -41,7 +41,7 @@ fn clocked_bit(d: Dump, out: &mut [u8], t: u64, bit: bool) -> Dump
 fn rise(d: Dump, out: &mut [u8], t: u64, bit: bool) -> Dump {
     let d = timestamp(d, out, t);
     let d = change(d, out, clock(), Value::V1);
-    change(d, out, data(), Value::from_bool(bit))
+    change(d, out, data(), Value::from(bit))
 }
 
 // The ids that the writer gives first and second.

@@ -7,7 +7,7 @@ ghost use Rattle.text.specs.Bytes.{bytes, starts};
 ghost use Rattle.text.specs.Names.{lookup};
 ghost use Rattle.text.specs.Texts.{spelled};
 ghost use Rattle.command.specs.Words.{sim_name, words, word_of, end_mark, first_end};
-ghost use Rattle.command.specs.Refusals.{number_of, id_refusal};
+ghost use Rattle.command.specs.Refusals.{number_of};
 ghost use Rattle.command.specs.Numbers.{sim_number, sim_of};
 
 use idcode::{IdCode, InvalidIdCode};
@@ -41,7 +41,7 @@ pub enum Command {
 }
 
 // A simulation command type, used in `Command::Begin` and `Command::End`.
-#[derive(Clone, Copy)]
+#[derive(Clone, Copy, PartialEq, Eq)]
 pub enum SimulationCommand {
     Dumpall,
     Dumpoff,
@@ -244,22 +244,26 @@ impl SimulationCommand {
 }
 
 impl Refusal {
-    // The refusal of a text that is no id.
-    pub fn from_id(e: InvalidIdCode) -> Refusal
-        ensures { result ≡ id_refusal e }
-    {
-        match e {
-            InvalidIdCode::Empty => Refusal::IdEmpty,
-            InvalidIdCode::InvalidChars => Refusal::IdInvalidChars,
-            InvalidIdCode::TooLong => Refusal::IdTooLong,
-        }
-    }
-
     // The page's number.
     pub fn number(self) -> u64
         ensures { result ≡ number_of self }
     {
         // The refusals stand in the page's order, the first at 1.
         self as u64
+    }
+}
+
+// The refusal of a text that is no id.
+impl From<InvalidIdCode> for Refusal {
+    ghost use Rattle.command.specs.Refusals.{id_refusal};
+
+    ghost from_gives = { λ e r. r ≡ id_refusal e };
+
+    fn from(e: InvalidIdCode) -> Refusal {
+        match e {
+            InvalidIdCode::Empty => Refusal::IdEmpty,
+            InvalidIdCode::InvalidChars => Refusal::IdInvalidChars,
+            InvalidIdCode::TooLong => Refusal::IdTooLong,
+        }
     }
 }

@@ -139,7 +139,5 @@ pub fn put_byte(out: &mut [u8], at: usize, b: u8) -> usize {
 }
 
 pub fn put_number(out: &mut [u8], at: usize, n: u64) -> usize {
-    let word = number::decimal(n);
-    let bytes = word.bytes;
-    put(out, at, front(&bytes, word.len))
+    put(out, at, number::decimal(n).as_bytes())
 }

@@ -13,10 +13,9 @@ use lib.Dec.{leb}
 use borrow.Rule.Slice.PartMut.{put_mid}
 use lib.ListN.{length, take, drop, set, get_or, replicate, length-append, length-drop, length-replicate, take-append-drop}
 use lib.Seq.{take-append_seam, take-append-le, take-take, drop-append-le, drop-append-add, drop_at, drop-drop, length-take-le, set_split, paste-suc}
-use Rattle.text.specs.Texts.{spelled, text_in, put_answer, put_bytes}
-use Rattle.text.specs.declared.Spelled.{Spelled}
+use Rattle.text.specs.Texts.{put_answer, put_bytes}
 use Rattle.text.proofs.Lists.{by-test}
-use Rattle.text.proofs.Rows.{text_in_lem, no_room}
+use Rattle.text.proofs.Rows.{no_room}
 use Rattle.emit.specs.Put.{concat, stored}
 
 -- what the test for room says
@@ -26,11 +25,6 @@ module _ {r : Bool} (n room : ℕ) (e : r ≡ leb n room) where
 
   pub fits-no : not r ≡ true → room < n
   fits-no h = leb-false n room (sym e ∙ not-true _ h)
-
--- the text of a row
-pub row-text : {x : Spelled} {r : List ℕ} (t : List ℕ) → x ≡ spelled t → r ≡ take x.len x.bytes → r ≡ t
-unfolding text_in
-row-text t e q = q ∙ (rw e (text_in_lem t))
 
 -- ---- a word, one byte a turn
 pub stored-none : (o : List ℕ) (at : ℕ) → o ≡ stored o at []

@@ -146,12 +146,12 @@ pub fn emit_bare(word: &[u8], out: &mut [u8]) -> Option<usize>
 }
 
 // A change whose text is kept, a real's or a string's: its first byte, the text and the id.
+#[tactic(auto, using(text::proofs::Rows::text_in_lem))]
 pub fn emit_text(first: u8, t: &[u8], id: IdCode, out: &mut [u8]) -> Option<usize>
     ensures { (result ≡ put_answer (concat ((first ∷ []) ∷ t.now ∷ bytes " " ∷ id_text id.0 ∷ bytes "\n" ∷ [])) out.old) × (out.new ≡ put_bytes (concat ((first ∷ []) ∷ t.now ∷ bytes " " ∷ id_text id.0 ∷ bytes "\n" ∷ [])) out.old) }
 {
-    let i = id.spell();
-    let code = i.bytes;
-    emit(&[first], t, b" ", text::front(&code, i.len), b"\n", out)
+    let code = id.spell();
+    emit(&[first], t, b" ", code.as_bytes(), b"\n", out)
 }
 
 // A first byte and a newline, around what p says to stand from place 1 on.

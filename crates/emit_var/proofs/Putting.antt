@@ -26,7 +26,7 @@ use Rattle.scope.specs.contracts.ReferenceIndex.{the_type}
 use Rattle.scope.proofs.ReferenceIndex.TheLaws.{the_laws}
 use Rattle.scope.proofs.Types.{var-names}
 use Rattle.emit.specs.Put.{stored}
-use Rattle.emit.proofs.Storing.{stored_next, stored-length, total-is, part-put, part_none}
+use Rattle.emit.proofs.Storing.{stored-byte, stored_next, stored-length, total-is, part-put, part_none}
 use Rattle.emit_var.specs.Define.{indexed, var_words, var_text, Puts}
 
 -- a text, and another after it
@@ -79,8 +79,8 @@ module _ (t o : List ℕ) (at : ℕ) (h : at + length t ≤ length o) {x : Optio
   pub part_count : (n : ℕ) → x ≡ Some n → Puts o at t (at + n) (put_mid at (length o - at) o ys)
   part_count n q = let y = part-put t o at (length o - at) (omega arith) e n q in (ap (λ (m : ℕ). at + m) y.0, y.2)
 
-  pub part-full : x ≡ None → ⊥
-  part-full q = omega (arith, (part_none t o at (length o - at) (omega arith) e q).0)
+  pub part-full : x ≡ None → {r : ℕ} {left : List ℕ} → Puts o at t r left
+  part-full q = absurd (omega (arith, (part_none t o at (length o - at) (omega arith) e q).0))
 
 -- ---- a text put at the start, where it has room
 pub placed : {r : ℕ} {o' : List ℕ} (w o : List ℕ) → length w ≤ length o → Puts o 0 w r o'
@@ -112,3 +112,8 @@ var-length k n i t x hn hi g =
       (text-length i.0 hi).1,
       indexed-length x (sized x g),
     )
+
+-- what the search takes from here: one byte put, and a text put by a call
+pub ruleset byte_put = (stored-byte)
+
+pub ruleset by_part = (part_count)

@@ -54,6 +54,7 @@ pub fn emit_var(
 }
 
 // A definition where there may be no room: the words are made first.
+#[tactic(auto, using(text::proofs::Rows::text_in_lem))]
 fn emit_near(
     t: VarType,
     width: u32,
@@ -64,20 +65,16 @@ fn emit_near(
 ) -> Option<usize>
     ensures { (result ≡ put_answer (var_text t width id name.now x) out.old) × (out.new ≡ put_bytes (var_text t width id name.now x) out.old) }
 {
-    let k = t.spell();
-    let kind = k.bytes;
-    let n = number::decimal(width as u64);
-    let digits = n.bytes;
-    let i = id.spell();
-    let code = i.bytes;
-    let y = indexed(x);
-    let place = y.bytes;
+    let kind = t.spell();
+    let digits = number::decimal(width as u64);
+    let code = id.spell();
+    let place = indexed(x);
     emit_words(
-        text::front(&kind, k.len),
-        text::front(&digits, n.len),
-        text::front(&code, i.len),
+        kind.as_bytes(),
+        digits.as_bytes(),
+        code.as_bytes(),
         name,
-        text::front(&place, y.len),
+        place.as_bytes(),
         out,
     )
 }
@@ -173,6 +170,7 @@ fn put_var(
     put_byte(out, n, b'\n')
 }
 
+#[tactic(auto, using(crate::proofs::Putting::byte_put))]
 fn put_byte(out: &mut [u8], at: usize, b: u8) -> usize
     requires { at + 1 ≤ length out.old }
     ensures { Puts out.old at (b ∷ []) result out.new }
@@ -181,14 +179,12 @@ fn put_byte(out: &mut [u8], at: usize, b: u8) -> usize
     at + 1
 }
 
+#[tactic(auto, using(emit::proofs::Storing::stored_mid))]
 fn put_four(out: &mut [u8], at: usize, a: u8, b: u8, c: u8, d: u8) -> usize
     requires { at + 4 ≤ length out.old }
     ensures { Puts out.old at (a ∷ b ∷ c ∷ d ∷ []) result out.new }
 {
-    out[at] = a;
-    out[at + 1] = b;
-    out[at + 2] = c;
-    out[at + 3] = d;
+    out[at..at + 4].copy_from_slice(&[a, b, c, d]);
     at + 4
 }
 
@@ -200,9 +196,8 @@ fn put_type(out: &mut [u8], at: usize, t: VarType) -> usize
     match t {
         VarType::Wire | VarType::Reg => put_usual(out, at, is_wire(t)),
         _ => {
-            let k = t.spell();
-            let kind = k.bytes;
-            let n = emit::put(out, at, text::front(&kind, k.len));
+            let kind = t.spell();
+            let n = emit::put(out, at, kind.as_bytes());
             put_byte(out, n, b' ')
         }
     }
@@ -240,6 +235,7 @@ fn put_usual(out: &mut [u8], at: usize, wire: bool) -> usize
     put_byte(out, end, b' ')
 }
 
+#[tactic(auto, using(crate::proofs::Putting::by_part))]
 fn put_number(out: &mut [u8], at: usize, n: u64) -> usize
     requires { at + length (decimal_of n) ≤ length out.old }
     ensures { Puts out.old at (decimal_of n) result out.new }
@@ -257,6 +253,7 @@ fn put_number(out: &mut [u8], at: usize, n: u64) -> usize
     }
 }
 
+#[tactic(auto, using(crate::proofs::Putting::by_part))]
 fn put_id(out: &mut [u8], at: usize, id: IdCode) -> usize
     requires { at + length (id_text id.0) ≤ length out.old }
     ensures { Puts out.old at (id_text id.0) result out.new }
@@ -294,9 +291,10 @@ fn put_signed(out: &mut [u8], at: usize, a: i32) -> usize
     requires { at + length (signed_of a) ≤ length out.old }
     ensures { Puts out.old at (signed_of a) result out.new }
 {
+    let size = a.unsigned_abs() as u64;
     if 0 <= a {
-        return put_number(out, at, a as u64);
+        return put_number(out, at, size);
     }
     let n = put_byte(out, at, b'-');
-    put_number(out, n, (0 - (a as i64)) as u64)
+    put_number(out, n, size)
 }

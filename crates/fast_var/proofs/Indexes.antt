@@ -1,5 +1,5 @@
 -- Laws of digits and of indexes in digits: what a run of digits means, and what `[n]` and `[m:n]` are read as. Assumes nothing.
-use Rattle.std.proofs.Common.{◌≡◌, ℕ, suc, ◌+◌, ◌-◌, ◌*◌, ◌^◌, ◌<◌, ◌≤◌, true, List, [], ◌∷◌, ◌++◌, length, get_or, take, drop, ℤ, pos, sym, refl, ap, ◌∙◌, append-nil, pow-suc, arith, length-append, length-drop, take-append-drop, length-take, get_or-drop, take-suc, drop-drop, w32, SFits, to_z, lt-ltb, eq-eqb, ne_eqb, Some}
+use Rattle.std.proofs.Common.{◌≡◌, ℕ, suc, ◌+◌, ◌-◌, ◌*◌, ◌^◌, ◌<◌, ◌≤◌, true, List, [], ◌∷◌, ◌++◌, length, get_or, take, drop, ℤ, pos, sym, refl, ap, ◌∙◌, append-nil, pow-suc, arith, length-append, length-drop, take-append-drop, length-take, get_or-drop, take-suc, drop-drop, w32, to_z, lt-ltb, eq-eqb, ne_eqb, Some}
 use native.Mathlib.Nat.{pow-le-pow_right}
 use lib.Seq.{take-length, take-append_seam, get_or-append_seam, drop-append-add}
 use mir.ValLaws.{to_z_pos}
@@ -67,10 +67,6 @@ module _ (s : List ℕ) (at i v : ℕ) (d : Counted s at i v) where
         digits = rw (taken h) (digits-snoc (get_or s i 0) _ (digit (get_or s i 0) l u) d.digits);
         means = rw (taken h, value-snoc 0 (get_or s i 0) (take (i - at) (drop at s)), d.means);
       }
-
-  pub counted-end : at < i → i < length s → Number s at i v
-  counted-end some h =
-      record { some = some; inside = h; few = d.few; small = counted-small; digits = d.digits; means = d.means }
 
 -- ---- they stand there
 digits-solid : (w : List ℕ) → all_digits w ≡ true → (no_blank w ≡ true) × (valid_utf8 w ≡ true)
@@ -194,9 +190,6 @@ module _ (s : List ℕ) (at e v : ℕ) (d : Number s at e v) where
   -- the machine holds it as it is
   held : pos (value 0 (take (e - at) (drop at s))) ≡ to_z w32 v
   held = ap pos d.means ∙ sym (to_z_pos w32 v (omega (arith, d.small)))
-
-  pub number_fits : SFits w32 (pos v)
-  number_fits = record { sfits = omega (arith, d.small) }
 
 module _ (s : List ℕ) (at e : ℕ) (k : Closed s e) where
   pub bit-here : (v : ℕ) → get_or s at 0 ≡ 91 → Number s (at + 1) e v → IndexAt s at (Some (ReferenceIndex.BitSelect (to_z w32 v), e + 1))

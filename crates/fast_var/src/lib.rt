@@ -184,10 +184,7 @@ fn closed(input: &[u8], at: usize) -> bool
     requires { (at ≤ length input.now) × (length input.now ≤ limit) }
     ensures { result ≡ true → Closed input.now at }
 {
-    if input.len() <= at + 1 {
-        return false;
-    }
-    input[at] == b']' && input[at + 1] == b' '
+    at + 1 < input.len() && input[at] == b']' && input[at + 1] == b' '
 }
 
 // The digits from `at` on, 9 at most, and where they end.
@@ -196,17 +193,15 @@ fn digits(input: &[u8], at: usize) -> Option<(u64, usize)>
     ensures { Digits input.now at result }
 {
     let mut v: u64 = 0;
-    let mut i = at;
-    while i < input.len() {
-        let b = text::wide(input[i]);
-        if b < 48 || 57 < b {
+    for i in at..input.len() {
+        let b = input[i];
+        if !b.is_ascii_digit() {
             return if at < i { Some((v, i)) } else { None };
         }
         if at + 9 <= i {
             return None;
         }
-        v = v * 10 + (b - 48);
-        i += 1;
+        v = v * 10 + (b - b'0') as u64;
     }
     None
 }
@@ -216,14 +211,9 @@ fn spaces_end(input: &[u8], at: usize) -> usize
     requires { at ≤ length input.now }
     ensures { Gap input.now at result }
 {
-    let mut i = at;
-    while i < input.len() {
-        if input[i] != b' ' {
-            return i;
-        }
-        i += 1;
-    }
-    i
+    (at..input.len())
+        .find(|&i| input[i] != b' ')
+        .unwrap_or(input.len())
 }
 
 // Where the word of printable ASCII ends that starts at `at`, and a space stands; `at` where there is none such. The end of a word of
@@ -256,9 +246,8 @@ fn guess(word: u64) -> usize
     ensures { result ≤ 8 }
 {
     let x = word ^ 0x2020202020202020;
-    let y = std::num::wrapping_sub_u64(x, 0x0101010101010101);
-    let n = u64::trailing_zeros(y & (x ^ 0xffffffffffffffff) & 0x8080808080808080);
-    if 64 < n { 8 } else { (n / 8) as usize }
+    let zeros = x.wrapping_sub(0x0101010101010101) & !x & 0x8080808080808080;
+    zeros.trailing_zeros() as usize / 8
 }
 
 // The end of such a word of any length; `at` where there is none.
@@ -271,7 +260,7 @@ fn word_end_plain(input: &[u8], at: usize) -> usize
     }
     let last = input.len() - 1;
     let mut i = at;
-    // Two bytes a turn.
+    // Two bytes a turn, for speed.
     while i < last {
         let a = input[i];
         if a < 33 || 126 < a {

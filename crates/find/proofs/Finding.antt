@@ -1,24 +1,21 @@
 -- Looking up by a path: the names of a path one by one, and the first row that is named.
+use Rattle.std.specs.Prelude.{Option, Some, None}
 use Prim.Native.Nat.{ℕ, zero, suc, ◌+◌, ◌-◌, ◌/◌, ◌≤◌, ◌<◌, min}
 use mathlib.Core.Path.{◌≡◌, refl, sym, ap, ◌∙◌}
-use mathlib.Core.Logic.{◌≢◌}
-use Rattle.std.specs.List.{AllWithin, HoldsAt}
-use Rattle.std.specs.Option.{MatchOption, unwrap_or}
-use Rattle.std.proofs.Common.{Option}
-use Rattle.std.proofs.lemmas.Iterator.{index_from_first}
 use mathlib.Core.Bool.{true, false, cond}
 use mathlib.Core.List.{List, [], ◌∷◌}
 use native.Mathlib.Decide.{dec_lt}
 use native.Mathlib.Omega.{arith}
-use borrow.Author.Tests.{eq-eqb, ne_eqb, ltb-true, lt-ltb, le-ltb}
-use lib.Dec.{eqb, ltb}
+use borrow.Author.Tests.{ltb-true, lt-ltb, le-ltb}
+use lib.Dec.{ltb}
 use lib.ListN.{length, take, drop, length-drop}
 use lib.Seq.{drop-drop}
 use Rattle.scope.specs.Index.{up_to_byte}
+use Rattle.scope.proofs.Splitting.{up-front}
 use Rattle.text.proofs.Lists.{by-test, take_rest}
 use Rattle.find.specs.Find.{is_named, first_named, names_on, names, into, find_from, sought}
 use Rattle.rows.specs.Rows.{row_at, rows_from, top, rows_of}
-use Rattle.find.specs.declared.FoundRow.{FoundRow}
+use Rattle.rows.specs.declared.RowNumber.{RowNumber}
 use Rattle.find.specs.declared.Kind.{Kind}
 use Rattle.rows.specs.declared.Row.{Row}
 
@@ -60,25 +57,12 @@ names-some (b ∷ l) h = refl
 
 -- the front of a path up to its first space is the name
 name-front : (l : List ℕ) (n : ℕ) → n ≡ length (first l) → take n l ≡ first l
-unfolding up_to_byte
-name-front [] n e = rw e
-name-front (b ∷ l) n e =
-    by-test (eqb b 32)
-    (λ q. rw (e, q))
-    (λ q. rw (e, q) (ap (λ (r : List ℕ). b ∷ r) (name-front l (length (first l)) refl)))
+name-front l n e = rw e (up-front 32 l)
 
 pub name-count : (l : List ℕ) (n : ℕ) → n ≡ length (first l) → n ≡ length (take n l)
 name-count l n e = e ∙ sym (ap length (name-front l n e))
 
--- the place of the first space, or the end, where r is what `position` answered
-pub space-length : (l : List ℕ) (r : Option ℕ)
-    → MatchOption r (AllWithin (λ b. b ≢ 32) l 0 (length l)) (λ i. (i < length l) × HoldsAt (λ b. b ≡ 32) l i × AllWithin (λ b. b ≢ 32) l 0 i)
-    → unwrap_or r (length l) ≡ length (first l)
-unfolding up_to_byte
-space-length l r h =
-    sym (index_from_first (λ m. length (first m)) (λ b. b ≡ 32) (λ b. b ≢ 32) refl (λ b m e. rw (eq-eqb b 32 e)) (λ b m e. rw (ne_eqb b 32 e) (omega arith)) l r h)
-
-pub sought-none : (s : List ℕ) (kind : Kind) (table : List ℕ) (n : ℕ) (path : List ℕ) → length path ≡ 0 → FoundRow.None ≡ sought s kind table n path
+pub sought-none : (s : List ℕ) (kind : Kind) (table : List ℕ) (n : ℕ) (path : List ℕ) → length path ≡ 0 → None ≡ sought s kind table n path
 unfolding sought names find_from
 sought-none s kind table n [] e = refl
 sought-none s kind table n (b ∷ path) e = absurd (omega arith)
@@ -102,7 +86,7 @@ module _ (s : List ℕ) (kind : Kind) (rs : List Row) (p : ℕ) (l : List ℕ) w
   unfolding find_from
   on r = some (λ x. find_from s kind rs p (first l ∷ x) ≡ into (λ q. find_from s kind rs q x) (first_named s Kind.Scope p (first l) 0 rs)) r (λ a t. refl)
 
-  pub find-on : length (first l) < length l → (x : FoundRow) → x ≡ first_named s Kind.Scope p (first l) 0 rs
+  pub find-on : length (first l) < length l → (x : Option RowNumber) → x ≡ first_named s Kind.Scope p (first l) 0 rs
       → find_from s kind rs p (pieces l) ≡ into (λ q. find_from s kind rs q (pieces (drop (length (first l) + 1) l))) x
   find-on h x e = rw e (ap (find_from s kind rs p) (pieces_more l h) ∙ on (drop (length (first l) + 1) l))
 
@@ -120,11 +104,11 @@ module _ (s : List ℕ) (kind : Kind) (rs : List Row) (p : ℕ) (path : List ℕ
   pub left-length : length left ≡ length path - at
   left-length = rw (take_rest path at) (length-drop at path)
 
-  pub last_name : length left ≤ len → (x : FoundRow) → x ≡ first_named s kind p (take len left) 0 rs → find_from s kind rs p (pieces (drop at path)) ≡ x
+  pub last_name : length left ≤ len → (x : Option RowNumber) → x ≡ first_named s kind p (take len left) 0 rs → find_from s kind rs p (pieces (drop at path)) ≡ x
   last_name h x q =
       find-last s kind rs p (drop at path) (omega (arith, len_is, left-length, length-drop at path)) ∙ sym (q ∙ ap (λ (l : List ℕ). first_named s kind p l 0 rs) name-is)
 
-  pub next-name : len < length left → (x : FoundRow) → x ≡ first_named s Kind.Scope p (take len left) 0 rs
+  pub next-name : len < length left → (x : Option RowNumber) → x ≡ first_named s Kind.Scope p (take len left) 0 rs
       → find_from s kind rs p (pieces (drop at path)) ≡ into (λ q. find_from s kind rs q (pieces (drop (at + (len + 1)) path))) x
   next-name h x q =
       find-on s kind rs p (drop at path) (omega (arith, len_is, left-length, length-drop at path)) x (q ∙ ap (λ (l : List ℕ). first_named s Kind.Scope p l 0 rs) name-is)
@@ -139,7 +123,7 @@ nameless : (s : List ℕ) (kind : Kind) (p : ℕ) (name table : List ℕ) (i : �
 unfolding row_at
 nameless s kind p name table i h = rw (le-ltb i (length table / 10) h) (no_row s kind p name)
 
-pub beyond : (s : List ℕ) (kind : Kind) (p : ℕ) (name table : List ℕ) (k i : ℕ) → length table / 10 ≤ i → first_named s kind p name i (rows_from table i k) ≡ FoundRow.None
+pub beyond : (s : List ℕ) (kind : Kind) (p : ℕ) (name table : List ℕ) (k i : ℕ) → length table / 10 ≤ i → first_named s kind p name i (rows_from table i k) ≡ None
 unfolding first_named rows_from
 beyond s kind p name table zero i h = refl
 beyond s kind p name table (suc k) i h = rw (nameless s kind p name table i h) (beyond s kind p name table k (i + 1) (omega arith))
@@ -147,18 +131,18 @@ beyond s kind p name table (suc k) i h = rw (nameless s kind p name table i h) (
 -- ---- the first that is named
 module _ (s : List ℕ) (kind : Kind) (p : ℕ) (name table : List ℕ) (count i : ℕ) where
   -- the answer from row i on
-  abbrev pub from : FoundRow
+  abbrev pub from : Option RowNumber
   from = first_named s kind p name i (rows_from table i (count - i))
 
   one : (k : ℕ) → first_named s kind p name i (rows_from table i (suc k))
-      ≡ cond (is_named s kind p name (row_at table i)) (FoundRow.At (record { 0 = i })) (first_named s kind p name (i + 1) (rows_from table (i + 1) k))
+      ≡ cond (is_named s kind p name (row_at table i)) (Some (record { 0 = i })) (first_named s kind p name (i + 1) (rows_from table (i + 1) k))
   unfolding first_named rows_from
   one k = refl
 
   pub from_start : i ≡ 0 → first_named s kind p name 0 (rows_of table count) ≡ from
   from_start e = let k : count ≡ count - 0 = omega arith in rw e (ap (λ (j : ℕ). first_named s kind p name 0 (rows_from table 0 j)) k)
 
-  pub from-hit : i < count → is_named s kind p name (row_at table i) ≡ true → from ≡ FoundRow.At (record { 0 = i })
+  pub from-hit : i < count → is_named s kind p name (row_at table i) ≡ true → from ≡ Some (record { 0 = i })
   from-hit h e =
       let k : count - i ≡ suc (count - suc i) = omega arith in
       rw k (one (count - suc i) ∙ rw e)
@@ -168,10 +152,10 @@ module _ (s : List ℕ) (kind : Kind) (p : ℕ) (name table : List ℕ) (count i
       let k : count - i ≡ suc (count - (i + 1)) = omega arith in
       rw k (one (count - (i + 1)) ∙ rw e)
 
-  from_end : count ≤ i → from ≡ FoundRow.None
+  from_end : count ≤ i → from ≡ None
   unfolding first_named rows_from
   from_end h = let k : count - i ≡ 0 = omega arith in rw k
 
   -- past the rows that are asked for, or those that the table has
-  pub from_past : min count (length table / 10) ≤ i → from ≡ FoundRow.None
+  pub from_past : min count (length table / 10) ≤ i → from ≡ None
   from_past h = elim (dec_lt i count) [ yes q ↦ beyond s kind p name table (count - i) i (omega arith) | no q ↦ from_end (omega arith) ]

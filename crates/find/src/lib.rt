@@ -10,12 +10,7 @@ use command::Refusal;
 use rows::{Row, RowNumber};
 
 // The row; none; or 25, where a text of the rows lies outside the input.
-#[derive(Clone, Copy)]
-pub enum FoundRow {
-    At(RowNumber),
-    None,
-    Refused(Refusal),
-}
+pub type FoundRow = Result<Option<RowNumber>, Refusal>;
 
 // What is looked for.
 #[derive(Clone, Copy)]
@@ -43,19 +38,20 @@ fn find(input: &[u8], kind: Kind, rows: &[u64], count: usize, path: &[u8]) -> Fo
     ensures { result ≡ found input.now kind rows.now count path.now }
 {
     if text::LIMIT < input.len() {
-        return FoundRow::Refused(Refusal::BadPlace);
+        return Err(Refusal::BadPlace);
     }
     if tree::place::some_outside(input, rows, count) {
-        return FoundRow::Refused(Refusal::BadPlace);
+        return Err(Refusal::BadPlace);
     }
-    seek(input, kind, rows, count, path)
+    Ok(seek(input, kind, rows, count, path))
 }
 
-fn seek(input: &[u8], kind: Kind, rows: &[u64], count: usize, path: &[u8]) -> FoundRow
+// A `loop`, since it moves by names.
+fn seek(input: &[u8], kind: Kind, rows: &[u64], count: usize, path: &[u8]) -> Option<RowNumber>
     ensures { result ≡ sought input.now kind rows.now count path.now }
 {
     if path.len() == 0 {
-        return FoundRow::None;
+        return None;
     }
     let mut at = 0;
     let mut parent = rows::TOP;
@@ -66,18 +62,9 @@ fn seek(input: &[u8], kind: Kind, rows: &[u64], count: usize, path: &[u8]) -> Fo
         if left.len() <= len {
             return first_named(input, kind, parent, name, rows, count);
         }
-        match first_named(input, Kind::Scope, parent, name, rows, count) {
-            FoundRow::At(n) => {
-                parent = n.0;
-                at += len + 1;
-            }
-            FoundRow::None => {
-                return FoundRow::None;
-            }
-            FoundRow::Refused(e) => {
-                return FoundRow::Refused(e);
-            }
-        }
+        let n = first_named(input, Kind::Scope, parent, name, rows, count)?;
+        parent = n.0;
+        at += len + 1;
     }
 }
 
@@ -96,16 +83,16 @@ fn first_named(
     name: &[u8],
     rows: &[u64],
     count: usize,
-) -> FoundRow
+) -> Option<RowNumber>
     ensures { result ≡ first_named input.now kind parent name.now 0 (rows_of rows.now count) }
 {
     let held = count.min(rows.len() / rows::WORDS);
     for i in 0..held {
         if is_named(input, kind, parent, name, rows::row_at(rows, i)) {
-            return FoundRow::At(RowNumber(i as u64));
+            return Some(RowNumber(i as u64));
         }
     }
-    FoundRow::None
+    None
 }
 
 fn is_named(input: &[u8], kind: Kind, parent: u64, name: &[u8], row: Row) -> bool

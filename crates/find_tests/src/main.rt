@@ -71,9 +71,9 @@ fn answer_path(
 
 fn put_found(input: &[u8], rows: &[u64], found: FoundRow, out: &mut [u8], at: usize) -> usize {
     match found {
-        FoundRow::At(n) => put_row(input, rows::row_at(rows, n.0 as usize), out, at),
-        FoundRow::None => put(out, at, b" -\n"),
-        FoundRow::Refused(_) => put(out, at, b" refused\n"),
+        Ok(Some(n)) => put_row(input, rows::row_at(rows, n.0 as usize), out, at),
+        Ok(None) => put(out, at, b" -\n"),
+        Err(_) => put(out, at, b" refused\n"),
     }
 }
 

@@ -187,9 +187,6 @@ pub record Reached (s : List ℕ) (cap p levels : ℕ) (c₀ : Cursor) (m₀ : L
   pub same : (st : List ℕ) (h : Header) → suc (length st) + levels ≡ 64
       → after m₀ n₀ (rest s cap c₀ (p ∷ st) n₀ h) ≡ after m n (rest s cap c (p ∷ st) n h)
 
-pub reached-start : (s : List ℕ) (cap p levels : ℕ) (c : Cursor) (m : List ℕ) (n : ℕ) → n ≤ cap → Reached s cap p levels c m n c m n
-reached-start s cap p levels c m n b = record { room = b; ahead = omega arith; same = λ st h w. refl }
-
 module _ {s : List ℕ} {cap p levels n₀ n : ℕ} {c₀ c : Cursor} {m₀ m : List ℕ} (i : Reached s cap p levels c₀ m₀ n₀ c m n) where
   abbrev Item-here : Item → List ℕ → Type 0
   Item-here = Took s cap (Some (record { 0 = p })) levels c m n

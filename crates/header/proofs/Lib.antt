@@ -1,4 +1,3 @@
-mod Duties
 mod Levels
 mod Table
 pub mod Good

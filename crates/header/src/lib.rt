@@ -36,6 +36,7 @@ pub struct HeaderAnswer {
 type Part = Result<(Cursor, usize), (Refusal, u64, Cursor, usize)>;
 
 // The next item: a row without or with items of its own, stored; a command that gives none; or a refusal with its line.
+// Four ways on, so an enum of its own.
 #[derive(Clone, Copy)]
 enum Item {
     Leaf(Cursor),
@@ -58,7 +59,7 @@ enum Move {
     Ends(Ended),
 }
 
-// Reads the header that begins at the cursor.
+// Reads the header that begins at the cursor. A `loop`, since each command moves the cursor by what was read.
 pub fn read_header(input: &[u8], c: Cursor, rows: &mut [u64]) -> HeaderAnswer
     ensures answer { result ≡ answer_of (header_of input.now c rows.old) }
     ensures table { rows.new ≡ filled (header_of input.now c rows.old).rows rows.old }
@@ -102,11 +103,7 @@ pub fn read_header(input: &[u8], c: Cursor, rows: &mut [u64]) -> HeaderAnswer
 fn capacity(len: usize) -> usize
     ensures { result ≡ min 4096 (len / 10) }
 {
-    let room = len / rows::WORDS;
-    if MOST_ROWS < room {
-        return MOST_ROWS;
-    }
-    room
+    MOST_ROWS.min(len / rows::WORDS)
 }
 
 fn nothing() -> Header
@@ -130,7 +127,8 @@ fn answer(cursor: Cursor, count: usize, header: Header, ended: Ended) -> HeaderA
     }
 }
 
-// The items of the scope whose row is `parent`; a scope among them is a call of itself with one level less left.
+// The items of the scope whose row is `parent`; a scope among them is a call of itself with one level less left. A `loop`, since each
+// command moves the cursor by what was read.
 fn parse_scope(
     input: &[u8],
     from: Cursor,
@@ -185,24 +183,20 @@ fn take_vars(
     requires { (made ≤ cap) × (cap ≤ 4096) × (10 * cap ≤ length rows.old) }
     ensures { Passes input.now cap parent from rows.old made result.cursor result.count rows.new }
 {
-    let mut cur = from;
-    let mut n = made;
     if !parser::placed(input, from) {
-        return so_far(cur, n);
+        return so_far(from, made);
     }
-    while n < cap {
+    let mut cur = from;
+    for n in made..cap {
         match fast_var::parse_var(input, cur.place) {
             Some((v, end)) => {
                 rows::put_var(rows, n, parent, v);
                 cur = token::word_read(cur, end, input[end]);
-                n += 1;
             }
-            None => {
-                return so_far(cur, n);
-            }
+            None => return so_far(cur, n),
         }
     }
-    so_far(cur, n)
+    so_far(cur, cap)
 }
 
 fn so_far(cursor: Cursor, count: usize) -> Taken
@@ -232,6 +226,7 @@ fn take_item(
 }
 
 // The row of a command that gives one: 19 and then 20 are judged first.
+#[tactic(auto, unfolding(crate::specs::Level::item_of, crate::specs::Level::table_of, crate::specs::Level::duty))]
 fn store_item(
     rows: &mut [u64],
     n: usize,
@@ -281,6 +276,7 @@ fn store_item(
 }
 
 // Inside a scope only `$upscope` is left.
+#[tactic(auto, unfolding(crate::specs::Level::close_of, crate::specs::Level::duty))]
 fn close(k: Command, d: Cursor, n: usize) -> Part
     ensures { result ≡ close_of k d n }
 {
@@ -291,27 +287,19 @@ fn close(k: Command, d: Cursor, n: usize) -> Part
 }
 
 // At top the latest date, version and timescale are kept.
+#[tactic(auto, unfolding(crate::specs::Level::keep_of, crate::specs::Level::duty))]
 fn keep(h: Header, k: Command, line: u64) -> Move
     ensures { result ≡ keep_of h k line }
 {
-    let date = h.date;
-    let version = h.version;
-    let timescale = h.timescale;
     match k {
-        Command::Date(t) => Move::On(Header {
-            date: Some(t),
-            version,
-            timescale,
-        }),
+        Command::Date(t) => Move::On(Header { date: Some(t), ..h }),
         Command::Version(t) => Move::On(Header {
-            date,
             version: Some(t),
-            timescale,
+            ..h
         }),
         Command::Timescale(n, u) => Move::On(Header {
-            date,
-            version,
             timescale: Some((n, u)),
+            ..h
         }),
         Command::Enddefinitions => Move::Ends(Ok(())),
         _ => Move::Ends(Err((Refusal::UnexpectedHeaderCommand, line))),

@@ -15,7 +15,7 @@ pub enum InvalidIdCode {
 }
 
 // An id used within the file to refer to a particular variable.
-#[derive(Clone, Copy)]
+#[derive(Clone, Copy, PartialEq, Eq)]
 pub struct IdCode(pub u64);
 
 impl IdCode {
@@ -52,18 +52,6 @@ impl IdCode {
             Some(code) => Some(IdCode(code)),
             None => None,
         }
-    }
-
-    pub fn from_u32(i: u32) -> IdCode
-        ensures { result ≡ record { 0 = i } }
-    {
-        IdCode(i as u64)
-    }
-
-    pub fn from_u64(i: u64) -> IdCode
-        ensures { result ≡ record { 0 = i } }
-    {
-        IdCode(i)
     }
 
     // The text of a code. The largest u64 has one too, which `from_str` refuses as too long. Here and below the number that is left
@@ -117,5 +105,21 @@ impl IdCode {
             }
             rest = more - 1;
         }
+    }
+}
+
+impl From<u32> for IdCode {
+    ghost from_gives = { λ i r. r ≡ record { 0 = i } };
+
+    fn from(i: u32) -> IdCode {
+        IdCode(i as u64)
+    }
+}
+
+impl From<u64> for IdCode {
+    ghost from_gives = { λ i r. r ≡ record { 0 = i } };
+
+    fn from(i: u64) -> IdCode {
+        IdCode(i)
     }
 }

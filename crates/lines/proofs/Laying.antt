@@ -5,6 +5,7 @@ use Prim.Native.Nat.{ℕ, ◌+◌, ◌≤◌}
 use mathlib.Core.Path.{◌≡◌, refl}
 use mathlib.Core.Bool.{Bool, true, false, not}
 use mathlib.Core.List.{List, [], ◌∷◌, ◌++◌, map}
+use native.Mathlib.Nat.{zero-add}
 use native.Mathlib.Omega.{arith}
 use borrow.Author.Tests.{le-leb}
 use lib.Dec.{leb}
@@ -80,3 +81,6 @@ module _ (s name : List ℕ) (width : ℕ) {since : Option Time} {n : ℕ} {k : 
       → (kind : ChangeKind) {word : List ℕ} → k ≡ kind → word ≡ value_text width kind value → (out : List ℕ) {r : Option ℕ} {left : List ℕ}
       → Laid (line_of name time line word) out r left → Laid (change_line s name width change) out r left
   laid-change t l p kind q w out e = rw (c, q) (rw (w, p, t, l) at e)
+
+-- what the search takes from here: room for the two parts
+pub ruleset laying = (room, wide-length, zero-add)

@@ -76,12 +76,10 @@ pub fn put_change(
         Change::None => Some(0),
         Change::Is(since, line, kind, v) => {
             let value = text::part(input, v);
-            let t = time_text(since);
-            let time = t.bytes;
-            let l = number::decimal(line);
-            let digits = l.bytes;
-            let time = text::front(&time, t.len);
-            let digits = text::front(&digits, l.len);
+            let time = time_text(since);
+            let time = time.as_bytes();
+            let digits = number::decimal(line);
+            let digits = digits.as_bytes();
             match kind {
                 ChangeKind::Scalar => lay_wide(
                     name,
@@ -123,18 +121,17 @@ pub fn put_full(name: &[u8], out: &mut [u8]) -> Option<usize>
 }
 
 // `refused NUMBER at LINE`.
+#[tactic(auto, using(text::proofs::Rows::text_in_lem))]
 pub fn put_refused(number: u64, line: u64, out: &mut [u8]) -> Option<usize>
     ensures { (result ≡ put_answer (refused_line number line) out.old) × (out.new ≡ put_bytes (refused_line number line) out.old) }
 {
-    let n = number::decimal(number);
-    let first = n.bytes;
-    let l = number::decimal(line);
-    let second = l.bytes;
+    let first = number::decimal(number);
+    let second = number::decimal(line);
     emit::emit(
         b"refused ",
-        text::front(&first, n.len),
+        first.as_bytes(),
         b" at ",
-        text::front(&second, l.len),
+        second.as_bytes(),
         b"\n",
         out,
     )
@@ -148,6 +145,7 @@ pub fn put_long(out: &mut [u8]) -> Option<usize>
 }
 
 // A line whose value is a text.
+#[tactic(auto, using(crate::proofs::Laying::laying))]
 fn lay_text(name: &[u8], time: &[u8], line: &[u8], value: &[u8], out: &mut [u8]) -> Option<usize>
     ensures { (result ≡ put_answer (concat (name.now ∷ bytes " " ∷ time.now ∷ bytes " " ∷ line.now ∷ bytes " " ∷ value.now ∷ bytes "\n" ∷ [])) out.old) × (out.new ≡ put_bytes (concat (name.now ∷ bytes " " ∷ time.now ∷ bytes " " ∷ line.now ∷ bytes " " ∷ value.now ∷ bytes "\n" ∷ [])) out.old) }
 {
@@ -166,6 +164,7 @@ fn lay_text(name: &[u8], time: &[u8], line: &[u8], value: &[u8], out: &mut [u8])
 }
 
 // A line whose value is in lower case after so many zeros.
+#[tactic(auto, using(crate::proofs::Laying::laying))]
 fn lay_wide(
     name: &[u8],
     time: &[u8],

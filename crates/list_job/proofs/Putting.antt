@@ -18,16 +18,13 @@ use Rattle.header.specs.declared.HeaderAnswer.{HeaderAnswer}
 use Rattle.rows.specs.declared.Row.{Row}
 use Rattle.lines.specs.Lines.{taken, fitting, filled, full_line, refused_line, put, answer_of}
 use Rattle.lines.specs.declared.Lines.{Lines}
-use Rattle.change.specs.Rows.{filled as list_filled}
-use Rattle.listing.specs.Listing.{list_of, answer_of as list_answer}
-use Rattle.listing.specs.declared.ListAnswer.{ListAnswer}
 use Rattle.parser.specs.Next.{fresh as fresh_cursor}
 use Rattle.scope.specs.declared.Var.{Var}
 use Rattle.text.specs.Texts.{part}
 use Rattle.token.specs.declared.Cursor.{Cursor}
 use Rattle.text.specs.Texts.{put_answer, put_bytes}
 use Rattle.text.proofs.Lists.{by-test}
-use Rattle.list_job.specs.Whole.{met_lines, is_full, met_then, end_lines, long_lines}
+use Rattle.list_job.specs.Whole.{met_lines, is_full, end_lines, long_lines}
 use Rattle.list_job.specs.Turns.{Does, Begins, Lists, Prints, Puts, fit, count_of, final, row_on, begin_turn, next_row, met_row, row_then, row_turn, ahead, lines_turn}
 use Rattle.list_job.specs.declared.Place.{Place}
 use Rattle.list_job.specs.declared.Printing.{Printing}
@@ -69,12 +66,6 @@ pub end-full : {r : Option ℕ} {out : List ℕ} {k : ℕ} {e : Refusal} {l : �
     → b ≡ is_full e → b ≡ true → k ≡ count_of r → Laid (full_line name) out₀ r out → Puts k out (end_lines name x) out₀
 end-full name x out₀ q a b g d = rw (q, sym a ∙ b) (puts-line (full_line name) out₀ g d.0 d.1)
 
-pub then-full : {e : Refusal} {l : ℕ} {b : Bool} (m : Option (Refusal × ℕ)) (x : Ended) → x ≡ Err (e, l) → b ≡ is_full e → b ≡ true → m ≡ met_then m x
-then-full m x q a b = rw (q, sym a ∙ b)
-
-pub then-other : {e : Refusal} {l : ℕ} {b : Bool} (m : Option (Refusal × ℕ)) (x : Ended) → x ≡ Err (e, l) → b ≡ is_full e → b ≡ false → Some (e, l) ≡ met_then m x
-then-other m x q a b = rw (q, sym a ∙ b)
-
 -- ---- turns
 does-final : {r : Turn} {n : ℕ} {out : List ℕ} (w : Bool) (ls : List (List ℕ)) (rows changes out₀ : List ℕ) → r ≡ record { count = n; next = State.Finished w }
     → Puts n out ls out₀ → Does r rows changes out out₀ (final w (fit (length out₀) ls) rows changes)
@@ -102,11 +93,6 @@ module _ (s rows₀ out₀ : List ℕ) (h : length s ≤ taken) {a : HeaderAnswe
   unfolding begin_turn
   begin-refused {e} {l} {n} {out} {r} g p z changes =
       rw (le-ltb taken (length s) h, sym ended ∙ g) (rw (w, f) (does-final false (met_lines (Some (e, l))) (header_filled (header_of s fresh_cursor rows₀).rows rows₀) changes out₀ z p))
-
-pub var-listed : {a : ListAnswer} {changes : List ℕ} (s changes₀ : List ℕ) (p : Place) (v : Var) → a ≡ list_answer (list_of s p.cursor v.code changes₀)
-    → changes ≡ list_filled (list_of s p.cursor v.code changes₀).rows changes₀
-    → Lists (record { count = 0; next = State.Lines p (record { name = v.reference; width = v.size; next = 0; count = a.count; ended = a.ended }) }) changes s changes₀ p v
-var-listed s changes₀ p v q w rows out = rw (q, w) (record { count = refl; next = refl; table = refl; list = refl; bytes = refl })
 
 module _ (s rows changes₀ out₀ : List ℕ) (p : Place) where
   pub row-end : {r : Turn} {n : ℕ} {out : List ℕ} → p.count ≤ p.row → Puts n out (met_lines p.met) out₀ → r ≡ record { count = n; next = State.Finished p.whole }

@@ -62,24 +62,14 @@ pub struct Turn {
 pub fn is_finished(state: State) -> bool
     ensures { result ≡ is_finished state }
 {
-    match state {
-        State::Begin => false,
-        State::Row(_) => false,
-        State::Lines(_, _) => false,
-        State::Finished(_) => true,
-    }
+    matches!(state, State::Finished(_))
 }
 
 // The outcome, once it is finished.
 pub fn is_whole(state: State) -> bool
     ensures { result ≡ ended_whole state }
 {
-    match state {
-        State::Begin => false,
-        State::Row(_) => false,
-        State::Lines(_, _) => false,
-        State::Finished(whole) => whole,
-    }
+    matches!(state, State::Finished(true))
 }
 
 // One turn.
@@ -108,15 +98,12 @@ fn turn_begin(input: &[u8], rows: &mut [u64], out: &mut [u8]) -> Turn
         return last(put_long(out), false);
     }
     let h = header::read_header(input, parser::start(), rows);
-    let ended = h.ended;
-    let cursor = h.cursor;
-    let count = h.count;
-    match ended {
+    match h.ended {
         Ok(()) => Turn {
             count: 0,
             next: State::Row(Place {
-                cursor,
-                count,
+                cursor: h.cursor,
+                count: h.count,
                 row: 0,
                 met: None,
                 whole: true,
@@ -139,22 +126,14 @@ fn last(count: usize, whole: bool) -> Turn
 fn turn_row(input: &[u8], p: Place, rows: &[u64], changes: &mut [u64], out: &mut [u8]) -> Turn
     ensures { Does result rows.now changes.new out.new out.old (row_turn input.now (length out.old) rows.now changes.old p) }
 {
-    let at = p.row;
-    let count = p.count;
-    let cursor = p.cursor;
-    let met = p.met;
-    let whole = p.whole;
-    if count <= at {
-        return last(put_met(met, out), whole);
+    if p.count <= p.row {
+        return last(put_met(p.met, out), p.whole);
     }
     let next = Place {
-        cursor,
-        count,
-        row: at + 1,
-        met,
-        whole,
+        row: p.row + 1,
+        ..p
     };
-    match rows::row_at(rows, at) {
+    match rows::row_at(rows, p.row) {
         Row::Var(_, v) => turn_var(input, next, v, changes),
         Row::Scope(_, _, _) => pass(next),
         Row::Comment(_, _) => pass(next),
@@ -175,22 +154,17 @@ fn pass(next: Place) -> Turn
 fn turn_var(input: &[u8], p: Place, v: Var, changes: &mut [u64]) -> Turn
     ensures { Lists result changes.new input.now changes.old p v }
 {
-    let cursor = p.cursor;
-    let code = v.code;
-    let a = listing::list(input, cursor, code, changes);
-    let name = v.reference;
-    let ended = a.ended;
-    let count = a.count;
+    let a = listing::list(input, p.cursor, v.code, changes);
     Turn {
         count: 0,
         next: State::Lines(
             p,
             Printing {
-                name,
+                name: v.reference,
                 width: v.size,
                 next: 0,
-                count,
-                ended,
+                count: a.count,
+                ended: a.ended,
             },
         ),
     }
@@ -200,43 +174,20 @@ fn turn_var(input: &[u8], p: Place, v: Var, changes: &mut [u64]) -> Turn
 fn turn_lines(input: &[u8], p: Place, l: Printing, changes: &[u64], out: &mut [u8]) -> Turn
     ensures { Prints result out.new input.now changes.now out.old p l }
 {
-    let name = l.name;
-    let width = l.width;
-    let next = l.next;
-    let count = l.count;
-    let ended = l.ended;
-    if next < count {
-        let n = lines::put_changes(
-            input,
-            text::part(input, name),
-            width,
-            changes,
-            next,
-            count,
-            out,
-        );
-        let after = n.next;
-        if after <= next {
+    let name = text::part(input, l.name);
+    if l.next < l.count {
+        let n = lines::put_changes(input, name, l.width, changes, l.next, l.count, out);
+        if n.next <= l.next {
             return last(0, false);
         }
         return Turn {
             count: n.count,
-            next: State::Lines(
-                p,
-                Printing {
-                    name,
-                    width,
-                    next: after,
-                    count,
-                    ended,
-                },
-            ),
+            next: State::Lines(p, Printing { next: n.next, ..l }),
         };
     }
-    let n = put_end(text::part(input, name), ended, out);
     Turn {
-        count: n,
-        next: State::Row(after_listing(p, ended)),
+        count: put_end(name, l.ended, out),
+        next: State::Row(after_listing(p, l.ended)),
     }
 }
 
@@ -244,19 +195,10 @@ fn turn_lines(input: &[u8], p: Place, l: Printing, changes: &[u64], out: &mut [u
 fn after_listing(p: Place, ended: Ended) -> Place
     ensures { result ≡ met_row p ended }
 {
-    let cursor = p.cursor;
-    let count = p.count;
-    let row = p.row;
-    let m = p.met;
-    let w = p.whole;
-    let met = met_then(m, ended);
-    let whole = whole_then(w, ended);
     Place {
-        cursor,
-        count,
-        row,
-        met,
-        whole,
+        met: met_then(p.met, ended),
+        whole: whole_then(p.whole, ended),
+        ..p
     }
 }
 
@@ -283,12 +225,7 @@ fn met_then(met: Option<(Refusal, u64)>, ended: Ended) -> Option<(Refusal, u64)>
 {
     match ended {
         Ok(()) => met,
-        Err((e, line)) => {
-            if is_full(e) {
-                return met;
-            }
-            Some((e, line))
-        }
+        Err((e, line)) => { if is_full(e) { met } else { Some((e, line)) } }
     }
 }
 
@@ -316,9 +253,10 @@ fn put_end(name: &[u8], ended: Ended, out: &mut [u8]) -> usize
         Ok(()) => 0,
         Err((e, _)) => {
             if is_full(e) {
-                return counted(lines::put_full(name, out));
+                counted(lines::put_full(name, out))
+            } else {
+                0
             }
-            0
         }
     }
 }

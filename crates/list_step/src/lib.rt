@@ -18,6 +18,7 @@ use text::Text;
 use token::Cursor;
 
 // What the listing of a code sees next, with the cursor after it: a time, a change of the code, another command; or how reading ends.
+// Five ways on, so an enum of its own.
 #[derive(Clone, Copy)]
 pub enum Step {
     Time(Cursor, Time),
@@ -152,7 +153,7 @@ fn seen_scalar(input: &[u8], c: Cursor, i: IdCode, code: IdCode) -> Seen
     requires { Valid input.now c }
     ensures { result ≡ of_code code (change i ChangeKind.Scalar (first_of input.now c)) }
 {
-    if i.0 == code.0 {
+    if i == code {
         return Seen::Change(ChangeKind::Scalar, first(input, c));
     }
     Seen::Other
@@ -161,7 +162,7 @@ fn seen_scalar(input: &[u8], c: Cursor, i: IdCode, code: IdCode) -> Seen
 fn seen_change(i: IdCode, code: IdCode, kind: ChangeKind, v: Text) -> Seen
     ensures { result ≡ of_code code (change i kind v) }
 {
-    if i.0 == code.0 {
+    if i == code {
         return Seen::Change(kind, v);
     }
     Seen::Other

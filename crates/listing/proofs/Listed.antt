@@ -28,7 +28,7 @@ use Rattle.list_step.specs.declared.Seen.{Seen}
 use Rattle.change.specs.declared.Change.{Change}
 use Rattle.change.specs.declared.ChangeKind.{ChangeKind}
 use Rattle.list_step.proofs.Roles.{Read}
-use Rattle.change.proofs.Table.{filled-length, put_next}
+use Rattle.change.proofs.Table.{put_next}
 
 -- ---- what a command gives, by what it is to the listing of a code
 abbrev gives : Cursor → Option Time → ℕ → Seen → List Entry
@@ -158,9 +158,6 @@ module _ (s : List ℕ) (i : IdCode) (c₀ : Cursor) (u₀ : Option Time) (t₀ 
 
   rows-count : length (rows_in l.made) ≡ n
   rows-count = length-map l.made (λ (e : Entry). e.row) ∙ l.count
-
-  pub listed-length : length table ≡ length t₀
-  listed-length = ap length l.stored ∙ filled-length (rows_in l.made) t₀ (omega (arith, rows-count, l.room))
 
   -- commands that are no changes of the code
   pub listed-passes : (d : Cursor) (u : Option Time) → Passes s i c t d u → Listed s i c₀ u₀ t₀ table d n u

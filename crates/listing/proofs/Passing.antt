@@ -44,9 +44,6 @@ module _ (s : List ℕ) (i : IdCode) (c : Cursor) (t : Option Time) where
 
   -- what `so_far` asks and gives
   module _ (d : Cursor) (at n : ℕ) (r : Running s i c t d at n) where
-    pub running-asks : (length s ≤ limit) × (at < length s → at + 34 ≤ length s)
-    running-asks = (r.passes.valid.short, r.long)
-
     pub running-ends : (x : Stand) → (x.cursor ≡ d) × ((u : Option Time) → Held s t at u → x.since ≡ u) → Passes s i c t x.cursor x.since
     running-ends x h = rw (h.0, h.1 r.since r.held) r.passes
 

@@ -34,7 +34,8 @@ pub fn list(input: &[u8], c: Cursor, code: IdCode, rows: &mut [u64]) -> ListAnsw
     list_on(input, c, None, code, rows)
 }
 
-// Lists on from a cursor before which `since` was the last time: after 24, from the cursor and the time that were answered.
+// Lists on from a cursor before which `since` was the last time: after 24, from the cursor and the time that were answered. A `loop`,
+// since each command moves the cursor by what was read.
 pub fn list_on(
     input: &[u8],
     c: Cursor,
@@ -97,8 +98,7 @@ fn fast_run(input: &[u8], c: Cursor, before: Option<Time>, code: IdCode) -> Stan
     let most = fast::short_commands(input.len(), c.place, input.len());
     let mut cur = c;
     let mut last = input.len();
-    let mut n: usize = 0;
-    while n < most {
+    for _ in 0..most {
         let at = cur.place;
         match fast::parse_short(input, at) {
             Fast::Time(_, end) => {
@@ -111,11 +111,8 @@ fn fast_run(input: &[u8], c: Cursor, before: Option<Time>, code: IdCode) -> Stan
                 }
                 cur = token::word_read(cur, end, input[end]);
             }
-            _ => {
-                return so_far(input, cur, last, before);
-            }
+            _ => return so_far(input, cur, last, before),
         }
-        n += 1;
     }
     so_far(input, cur, last, before)
 }
@@ -125,16 +122,12 @@ fn so_far(input: &[u8], cursor: Cursor, last: usize, before: Option<Time>) -> St
     requires { (length input.now ≤ limit) × (last < length input.now → last + 34 ≤ length input.now) }
     ensures { (result.cursor ≡ cursor) × ((u : Option Time) → Held input.now before last u → result.since ≡ u) }
 {
-    if input.len() <= last {
-        return Stand {
-            cursor,
-            since: before,
-        };
-    }
-    Stand {
-        cursor,
-        since: time_at(input, last),
-    }
+    let since = if last < input.len() {
+        time_at(input, last)
+    } else {
+        before
+    };
+    Stand { cursor, since }
 }
 
 // The timestamp that stands at a place.

@@ -12,6 +12,7 @@ use token::{Cursor, Reading};
 use value::Value;
 
 // A command and the cursor after it; a refusal, its line, and the cursor just after the last byte read; or the end.
+// Three ways on, so an enum of its own: a loop asks which in one `match`, where a `Result` of an `Option` takes two.
 #[derive(Clone, Copy)]
 pub enum Next {
     Command(Command, Cursor),

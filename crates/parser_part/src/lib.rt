@@ -68,7 +68,7 @@ pub fn read_id(input: &[u8], c: Cursor) -> Reading<IdCode>
     let (t, next) = read_token_str(input, c, 32)?;
     match IdCode::from_str(text::part(input, t)) {
         Ok(i) => Ok((i, next)),
-        Err(e) => Err((Refusal::from_id(e), next)),
+        Err(e) => Err((Refusal::from(e), next)),
     }
 }
 

@@ -23,14 +23,12 @@ pub fn fast_number(input: &[u8], at: usize) -> Option<(u64, usize)>
         return None;
     }
     let mut v = text::wide(first) - 48;
-    let mut i = at + 1;
-    while i < stop {
+    for i in at + 1..stop {
         let d = digit(input[i]);
         if 9 < d {
             return number_end(input[i], v, i);
         }
         v = v * 10 + d;
-        i += 1;
     }
     None
 }
@@ -84,8 +82,7 @@ fn fast_long_id(input: &[u8], at: usize) -> Option<(u64, usize)>
 {
     let mut sum = text::wide(input[at]) - 32;
     let mut power: u64 = 94;
-    let mut i = at + 1;
-    while i < input.len() {
+    for i in at + 1..input.len() {
         let b = input[i];
         if text::whitespace_byte(b) {
             return Some((sum - 1, i));
@@ -101,7 +98,6 @@ fn fast_long_id(input: &[u8], at: usize) -> Option<(u64, usize)>
         }
         sum = sum + (text::wide(b) - 32) * power;
         power = power * 94;
-        i += 1;
     }
     None
 }

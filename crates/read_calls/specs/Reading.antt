@@ -1,11 +1,12 @@
 -- What each reading call answers, and what it leaves in each lent array. An answer is 0, the page's number of a refusal, or 255 where
 -- reading is at the end. 25 with nothing changed, where an array has the wrong length or its words are no state.
-use Rattle.std.specs.Prelude.{ℕ, ◌*◌, ◌-◌, ◌^◌, Bool, true, false, cond, List, eqb, length, take, drop, Option, Some, None, Ok, Err}
+use Rattle.command.specs.declared.Refusal.{Refusal}
+use Rattle.std.specs.Prelude.{Result, ℕ, ◌*◌, ◌-◌, ◌^◌, Bool, true, false, cond, List, eqb, length, take, drop, Option, Some, None, Ok, Err}
 use Rattle.command.specs.Refusals.{Ended, number_of}
 use Rattle.header.specs.Header.{Outcome as HeaderOutcome, header_of, answer_of as header_answer}
 use Rattle.rows.specs.Rows.{filled as header_filled, row_at}
 use Rattle.header.specs.declared.HeaderAnswer.{HeaderAnswer}
-use Rattle.find.specs.declared.FoundRow.{FoundRow}
+use Rattle.rows.specs.declared.RowNumber.{RowNumber}
 use Rattle.rows.specs.declared.Row.{Row}
 use Rattle.change.specs.Rows.{change_at}
 use Rattle.change.specs.declared.Change.{Change}
@@ -121,12 +122,11 @@ unfoldable pub is_change_call : List ℕ → ℕ → List ℕ → Bool
 is_change_call t i o = cond (eqb (length o) 6) (is_change (change_at t i)) false
 
 -- a row that is found, or none, is stored; a refusal stores nothing
-abbrev pub found_status : FoundRow → ℕ
-found_status (FoundRow.At n) = 0
-found_status FoundRow.None = 0
-found_status (FoundRow.Refused e) = number_of e
+abbrev pub found_status : Result (Option RowNumber) Refusal → ℕ
+found_status (Ok n) = 0
+found_status (Err e) = number_of e
 
-abbrev pub found_after : ℕ → FoundRow → ℕ
-found_after w (FoundRow.At n) = n.0
-found_after w FoundRow.None = none
-found_after w (FoundRow.Refused e) = w
+abbrev pub found_after : ℕ → Result (Option RowNumber) Refusal → ℕ
+found_after w (Ok (Some n)) = n.0
+found_after w (Ok None) = none
+found_after w (Err e) = w

@@ -162,15 +162,15 @@ fn found(f: FoundRow, row: &mut u64) -> u64
     ensures row { row.new ≡ found_after row.old f }
 {
     match f {
-        FoundRow::At(n) => {
+        Ok(Some(n)) => {
             *row = n.0;
             OK
         }
-        FoundRow::None => {
+        Ok(None) => {
             *row = NONE;
             OK
         }
-        FoundRow::Refused(e) => e.number(),
+        Err(e) => e.number(),
     }
 }
 

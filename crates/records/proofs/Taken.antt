@@ -19,27 +19,13 @@ use Rattle.token.specs.Flat.{word_read}
 use Rattle.token.specs.Read.{Valid}
 use Rattle.token.specs.declared.Cursor.{Cursor}
 use Rattle.record.specs.Record.{record_words, words_of, put_at, put}
-use Rattle.records.specs.Read.{Outcome, ends, taken, read_of, answer_of, filled, step_of, as_slow, Inside, table_of, joined, Ran}
+use Rattle.records.specs.Read.{Outcome, ends, taken, read_of, answer_of, filled, step_of, as_slow, table_of, joined, Ran}
 use Rattle.records.specs.declared.Ended.{Ended}
 use Rattle.records.specs.declared.ReadAnswer.{ReadAnswer}
 use Rattle.records.specs.declared.Step.{Step}
 use Rattle.records.proofs.Table.{puts-length, puts-join, puts-filled}
 
--- ---- one step: a hit on the fast path, or the slow path
-module _ (s : List ℕ) (c : Cursor) where
-  pub hit-step : Valid s c → (e : ℕ) (k : Command) → Reads s c.place e k → (table t : List ℕ) (n : ℕ) → t ≡ put table n (record_words k)
-      → (as_slow s c (Step.Hit e) ≡ step_of (next_from s c)) × Inside s (Step.Hit e) × (t ≡ table_of (next_from s c) table n)
-  hit-step v e k h table t n q = rw (h.reads c v refl) (refl, h.inside, q)
-
-  slow-told : (x : Next) → (as_slow s c (step_of x) ≡ step_of x) × Inside s (step_of x)
-  slow-told (Next.Command k d) = (refl, tt)
-  slow-told (Next.Refused e line d) = (refl, tt)
-  slow-told (Next.Done d) = (refl, tt)
-
-  pub slow-step : (r : Step) (table t : List ℕ) (n : ℕ) → (r ≡ step_of (next_from s c)) × (t ≡ table_of (next_from s c) table n)
-      → (as_slow s c r ≡ step_of (next_from s c)) × Inside s r × (t ≡ table_of (next_from s c) table n)
-  slow-step r table t n h = let q = slow-told (next_from s c) in rw h.0 (q.0, q.1, h.1)
-
+-- ---- one step
 -- what a step says of the answer that it was made of; of a hit, its `as_slow` says it
 abbrev pub Stepped : Next → Step → Type 0
 Stepped x (Step.Hit e) = Unit {0}
@@ -114,22 +100,11 @@ pub record Runs (s : List ℕ) (c : Cursor) (n : ℕ) (t : List ℕ) (stop : ℕ
   pub fits : stop ≤ length t
   pub reaches : d.place + 34 * left ≤ length s
 
-pub runs-start : (s : List ℕ) (c : Cursor) (n : ℕ) (t : List ℕ) (r : ℕ) → Valid s c → 9 * (n + r) ≤ length t → c.place + 34 * r ≤ length s
-    → Runs s c n t (9 * (n + r)) c (9 * n) t
-runs-start s c n t r v h g =
-    record { count = n; left = r; ran = ran-start s c n t v (omega arith); stands = refl; stops = refl; fits = h; reaches = g }
-
 module _ (s : List ℕ) (c : Cursor) (n : ℕ) (t : List ℕ) (stop : ℕ) (d : Cursor) (at : ℕ) (u : List ℕ) (l : Runs s c n t stop d at u) where
-  pub runs-ran : Ran s c n t d (at / 9) u
-  runs-ran = let z : at / 9 ≡ l.count = omega (arith, l.stands) in rw z l.ran
-
   pub runs-length : length u ≡ length t
   runs-length = ran-length s c n t d l.count u l.ran
 
   module _ (h : at < stop) where
-    pub runs-room : (at + 9 ≤ length u) × (d.place + 34 ≤ length s)
-    runs-room = omega (arith, runs-length)
-
     -- one more
     pub runs-next : (e : ℕ) (k : Command) → Reads s d.place e k → e < d.place + 34
         → Runs s c n t stop (word_read d e (get_or s e 0)) (at + 9) (put_at u at (record_words k))

@@ -16,7 +16,7 @@ use text::Text;
 use token::Cursor;
 use value::Value;
 
-// How a run of reading ended: no room for one more, the end of the input, or a refusal and the line of it.
+// How a run of reading ended: no room for one more, the end of the input, or a refusal and the line of it. Three ways, so an enum of its own.
 #[derive(Clone, Copy)]
 pub enum Ended {
     Full,
@@ -31,7 +31,8 @@ pub struct ReadAnswer {
     pub ended: Ended,
 }
 
-// Reads commands from the cursor on, one a record, until there is no room for one more.
+// Reads commands from the cursor on, one a record, until there is no room for one more. A `loop`, since each command moves the cursor
+// by what was read.
 pub fn read(input: &[u8], c: Cursor, records: &mut [u64]) -> ReadAnswer
     ensures answer { result ≡ answer_of (read_of input.now c records.old) }
     ensures table { records.new ≡ filled (read_of input.now c records.old).commands records.old }
@@ -83,7 +84,8 @@ struct Reached {
 }
 
 // The fast path: the short commands that stand next, into their records from `n` on, until one misses. The byte that ends a command is
-// read before its record is stored, so that it need not be read again.
+// read before its record is stored, so that it need not be read again. `at` steps by a record's words: one count serves the test and the
+// stores, where a `for` over the records' numbers keeps three.
 fn fast_run(input: &[u8], c: Cursor, records: &mut [u64], n: usize) -> Reached
     requires { Valid input.now c × (9 * n ≤ length records.old) }
     ensures { Ran input.now c n records.old result.cursor result.count records.new }
@@ -106,9 +108,7 @@ fn fast_run(input: &[u8], c: Cursor, records: &mut [u64], n: usize) -> Reached
                 record::put_at(records, at, record::scalar_words(v, i));
                 cur = token::word_read(cur, end, b);
             }
-            _ => {
-                return so_far(cur, at / WORDS);
-            }
+            _ => return so_far(cur, at / WORDS),
         }
         at += WORDS;
     }
@@ -182,12 +182,11 @@ fn step_fast(input: &[u8], c: Cursor, records: &mut [u64], n: usize) -> Step
 fn again(c: Cursor) -> Cursor
     ensures { result ≡ c }
 {
-    let sim = c.sim;
     Cursor {
         place: c.place,
         line: c.line,
         pending: c.pending,
-        sim,
+        sim: c.sim,
     }
 }
 

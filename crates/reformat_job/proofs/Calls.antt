@@ -1,17 +1,16 @@
 -- What a turn's calls come to, each arm by itself. Assumes nothing.
-use Rattle.std.specs.Prelude.{Option, Result, Ok, Err}
+use Rattle.std.specs.Prelude.{Option, Ok, Err}
 use Prim.Native.Nat.{ℕ, ◌≤◌, ◌<◌}
 use mathlib.Core.Path.{◌≡◌, refl, sym, ap, ◌∙◌}
-use mathlib.Core.Bool.{Bool, true, false}
+use mathlib.Core.Bool.{false}
 use mathlib.Core.List.{List}
-use borrow.Author.Tests.{lt-ltb, le-ltb, eq-eqb, ne_eqb}
+use borrow.Author.Tests.{lt-ltb, le-ltb, eq-eqb}
 use lib.Dec.{eqb, leb}
 use lib.ListN.{length}
 use Rattle.command.specs.Meaning.{Meaning}
 use Rattle.command.specs.Refusals.{number_of}
 use Rattle.command.specs.declared.Refusal.{Refusal}
 use Rattle.header.specs.Header.{Outcome as Heading, header_of, answer_of as header_answer}
-use Rattle.header.specs.declared.Header.{Header}
 use Rattle.header.specs.declared.HeaderAnswer.{HeaderAnswer}
 use Rattle.lines.specs.Lines.{taken as input_limit, long_line, refused_line}
 use Rattle.parser.specs.Next.{fresh as fresh_cursor}
@@ -25,7 +24,7 @@ use Rattle.write.specs.Layout.{fresh}
 use Rattle.write.specs.Run.{taken}
 use Rattle.write.specs.declared.Writer.{Writer}
 use Rattle.write_header.specs.Meanings.{header_meanings}
-use Rattle.write_header.specs.Written.{Outcome, poured, header_call, Does as HeaderDoes}
+use Rattle.write_header.specs.Written.{Outcome, poured, header_call}
 use Rattle.reformat_job.specs.Turns.{Does, Leaves, last_of, opened, begin_turn, goes_on, next_of, commands_turn, count_of, headed_turn}
 use Rattle.reformat_job.specs.declared.State.{State}
 use Rattle.reformat_job.specs.declared.Turn.{Turn}
@@ -34,16 +33,6 @@ use Rattle.reformat_job.proofs.Heading.{header-written}
 -- ---- after some commands
 pub none_first : {n : ℕ} (e : Refusal) → n ≡ 0 → false ≡ goes_on e n
 none_first {n} e h = rw (eq-eqb n 0 h)
-
-pub some_first : {n x y : ℕ} (e : Refusal) → (n ≡ 0 → ⊥) → x ≡ number_of e → y ≡ number_of Refusal.NoRoom → eqb x y ≡ goes_on e n
-some_first {n} {x} {y} e h a b = rw (ne_eqb n 0 h, a, b)
-
-module _ (r : Rewritten) {e : Refusal} {l : ℕ} {b : Bool} (x : r.ended ≡ Err (e, l)) (g : b ≡ goes_on e r.count) where
-  pub next-on : b ≡ true → State.Commands r.cursor r.writer ≡ next_of r.cursor r.writer r.count r.ended
-  next-on t = let z : goes_on e r.count ≡ true = sym g ∙ t in rw (x, z)
-
-  pub next_last : b ≡ false → State.Last e l ≡ next_of r.cursor r.writer r.count r.ended
-  next_last t = let z : goes_on e r.count ≡ false = sym g ∙ t in rw (x, z)
 
 pub commands-done : {a : Rewritten} {out : List ℕ} {x : State} (s : List ℕ) (c : Cursor) (w : Writer) (out₀ : List ℕ) → a ≡ answer_of (rewrite_of s c w out₀)
     → out ≡ output_of (rewrite_of s c w out₀).bytes out₀ → x ≡ next_of a.cursor a.writer a.count a.ended
@@ -70,14 +59,6 @@ last-refused e l out₀ table a z q o =
     (o ∙ ap (λ (k : ℕ). put_bytes (refused_line k l) out₀) a)
 
 -- ---- the header
-module _ (s : List ℕ) (h : Header) (rows : List ℕ) (n : ℕ) (out₀ : List ℕ) {a : Result (ℕ × Writer) (Refusal × ℕ × Writer)} {out : List ℕ} {w : Writer} (f : w ≡ fresh)
-    (d : HeaderDoes a out (header_call w s h rows n out₀)) where
-  pub header-turn : a ≡ (header_call fresh s h rows n out₀).answer
-  header-turn = d.answers ∙ ap (λ (x : Writer). (header_call x s h rows n out₀).answer) f
-
-  pub header-left : out ≡ (header_call fresh s h rows n out₀).left
-  header-left = d.leaves ∙ ap (λ (x : Writer). (header_call x s h rows n out₀).left) f
-
 pub begin-long : {r : Turn} {p : Option ℕ} {out : List ℕ} (s out₀ table : List ℕ) → input_limit < length s → r ≡ record { count = count_of p; next = State.Finished false }
     → p ≡ put_answer long_line out₀ → out ≡ put_bytes long_line out₀ → Does r table out out₀ (begin_turn s (length out₀) table)
 unfolding begin_turn

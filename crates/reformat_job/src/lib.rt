@@ -41,24 +41,14 @@ pub struct Turn {
 pub fn is_finished(state: State) -> bool
     ensures { result ≡ is_finished state }
 {
-    match state {
-        State::Begin => false,
-        State::Commands(_, _) => false,
-        State::Last(_, _) => false,
-        State::Finished(_) => true,
-    }
+    matches!(state, State::Finished(_))
 }
 
 // Whether the turns ended after the whole dump.
 pub fn is_whole(state: State) -> bool
     ensures { result ≡ is_whole state }
 {
-    match state {
-        State::Begin => false,
-        State::Commands(_, _) => false,
-        State::Last(_, _) => false,
-        State::Finished(whole) => whole,
-    }
+    matches!(state, State::Finished(true))
 }
 
 // One turn.
@@ -84,11 +74,8 @@ fn turn_begin(input: &[u8], rows: &mut [u64], out: &mut [u8]) -> Turn
         return last(lines::put_long(out));
     }
     let h = header::read_header(input, parser::start(), rows);
-    let ended = h.ended;
-    let kept = h.header;
-    let c = h.cursor;
-    match ended {
-        Ok(()) => turn_header(input, kept, rows, h.count, c, out),
+    match h.ended {
+        Ok(()) => turn_header(input, h.header, rows, h.count, h.cursor, out),
         Err((e, line)) => Turn {
             count: 0,
             next: State::Last(e, line),
@@ -134,16 +121,14 @@ fn turn_commands(input: &[u8], c: Cursor, w: Writer, out: &mut [u8]) -> Turn
 fn next_state(r: Rewritten) -> State
     ensures { result ≡ next_of r.cursor r.writer r.count r.ended }
 {
-    let ended = r.ended;
-    let c = r.cursor;
-    let w = r.writer;
-    match ended {
+    match r.ended {
         Ok(()) => State::Finished(true),
         Err((e, line)) => {
             if goes_on(e, r.count) {
-                return State::Commands(c, w);
+                State::Commands(r.cursor, r.writer)
+            } else {
+                State::Last(e, line)
             }
-            State::Last(e, line)
         }
     }
 }
@@ -152,10 +137,7 @@ fn next_state(r: Rewritten) -> State
 fn goes_on(e: Refusal, count: usize) -> bool
     ensures { result ≡ goes_on e count }
 {
-    if count == 0 {
-        return false;
-    }
-    e.number() == Refusal::NoRoom.number()
+    count != 0 && e.number() == Refusal::NoRoom.number()
 }
 
 // `refused NUMBER at LINE`.

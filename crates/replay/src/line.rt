@@ -1,6 +1,6 @@
 // The canonical form: lines of a name, words and a text.
 use command::SimulationCommand;
-use console::{front, put, put_byte};
+use console::{put, put_byte};
 use scope::{ReferenceIndex, ScopeType, VarType};
 use text::{Spelled, Text};
 use timescale::TimescaleUnit;
@@ -153,7 +153,7 @@ pub fn put_word(out: &mut [u8], at: usize, word: Spelled) -> usize {
         return at;
     }
     let o = put_byte(out, at, b' ');
-    put(out, o, front(&word.bytes, word.len))
+    put(out, o, word.as_bytes())
 }
 
 // A space and the number.

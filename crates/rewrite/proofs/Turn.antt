@@ -224,9 +224,6 @@ module _ (s o : List ℕ) (c : Cursor) (w : Writer) (out : List ℕ) (n : ℕ) (
     unchanged : {e : Ended} {f : Cursor} → r ≡ Step.Ends f e → out' ≡ out
     unchanged q = let y = rw q at told-next in joined ∙ rw (y.0, ← rest-is) (take-append-drop n out)
 
-    pub stops-length : {e : Ended} {f : Cursor} → r ≡ Step.Ends f e → length out' ≡ length o
-    stops-length q = ap length (unchanged q) ∙ writes-length
-
     pub stops : {e : Ended} {f : Cursor} → r ≡ Step.Ends f e
         → (record { cursor = f; writer = v; count = n; ended = e } ≡ answer_of (rewrite_of s c w o)) × (out' ≡ filled (rewrite_of s c w o).bytes o)
     stops q = rw (ended q, append-nil x.bytes) (rw x.count, unchanged q ∙ x.left)

@@ -8,12 +8,11 @@ use mathlib.Core.List.{List}
 use native.Mathlib.Omega.{arith}
 use lib.ListN.{length, drop, get_or, length-drop}
 use lib.Seq.{length-take-le}
-use Rattle.text.specs.Texts.{limit, part, put_answer, put_bytes}
+use Rattle.text.specs.Texts.{part, put_answer, put_bytes}
 use Rattle.value.specs.Values.{lower}
 use Rattle.value.proofs.Values.{lower-byte}
 use Rattle.command.specs.Meaning.{meaning}
 use Rattle.command.specs.declared.Command.{Command}
-use Rattle.parser.specs.Next.{next_from}
 use Rattle.parser.specs.declared.Next.{Next}
 use Rattle.token.specs.Flat.{word_read}
 use Rattle.token.specs.Read.{Valid}
@@ -32,10 +31,6 @@ use Rattle.rewrite.proofs.Turn.{command-placed, Steps, Answers, command-steps}
 
 known : (i : ℕ) → i < 2 ^ 64 - 1 → is_id (record { 0 = i }) ≡ true
 known i h = id-some (record { 0 = i }) (λ q. omega (arith, q))
-
--- the cursor may be moved after a word that ends at e
-pub may-move : (s : List ℕ) (c : Cursor) → Valid s c → (e : ℕ) → e < length s → (e < limit) × (c.line ≤ limit + 1)
-may-move s c v e h = (omega (arith, v.short), omega (arith, v.counted, v.within, v.short))
 
 -- a vector has a value
 some : (s : List ℕ) (at stop e i : ℕ) → ReadsVector s at stop e i → length (part s (values_at at stop)) ≡ 0 → ⊥
@@ -58,9 +53,6 @@ module _ (s o : List ℕ) (c : Cursor) (w : Writer) where
   step_same (Next.Command k d) = wrote-same d (call w s k o).answer
   step_same (Next.Refused e line d) = (refl, tt)
   step_same (Next.Done d) = (refl, tt)
-
-  pub slow-steps : (r : Step) (left : List ℕ) → Steps s o c w r left → Answers s o c w r left
-  slow-steps r left h = let q = step_same (next_from s c) in rw h.0 (q.0, q.1, h.1)
 
 -- one that laid out the bytes l, if they had room
 abbrev Laid : List ℕ → List ℕ → Option ℕ → List ℕ → Type 0

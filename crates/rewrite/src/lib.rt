@@ -34,7 +34,7 @@ enum Step {
     Ends(Cursor, Ended),
 }
 
-// Rewrites the commands from the cursor on.
+// Rewrites the commands from the cursor on. A `loop`, since each command moves the cursor by what was read.
 pub fn rewrite(input: &[u8], c: Cursor, w: Writer, out: &mut [u8]) -> Rewritten
     ensures answer { result ≡ answer_of (rewrite_of input.now c w out.old) }
     ensures bytes { out.new ≡ filled (rewrite_of input.now c w out.old).bytes out.old }
@@ -123,24 +123,21 @@ fn step_fast(input: &[u8], c: Cursor, w: Writer, out: &mut [u8]) -> Step
 fn again(c: Cursor) -> Cursor
     ensures { result ≡ c }
 {
-    let sim = c.sim;
     Cursor {
         place: c.place,
         line: c.line,
         pending: c.pending,
-        sim,
+        sim: c.sim,
     }
 }
 
 fn state_again(w: Writer) -> Writer
     ensures { result ≡ w }
 {
-    let id = w.id;
-    let sim = w.sim;
     Writer {
         depth: w.depth,
-        id,
-        sim,
+        id: w.id,
+        sim: w.sim,
     }
 }
 

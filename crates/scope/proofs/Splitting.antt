@@ -8,7 +8,7 @@ use native.Mathlib.Omega.{arith}
 use borrow.Author.Tests.{eq-eqb, ne_eqb}
 use lib.Dec.{eqb}
 use lib.IntN.{ℤ}
-use lib.ListN.{length, take, drop, get_or, length-take, drop_of_length-le}
+use lib.ListN.{length, take, drop, get_or, length-take}
 use mir.Syntax.{w32}
 use mir.Val.{SFits, of_z, to_z}
 use mir.ValLaws.{to_z-of_z}
@@ -16,31 +16,9 @@ use Rattle.std.specs.List.{AllWithin, HoldsAt}
 use Rattle.std.specs.Option.{MatchOption, unwrap_or}
 use Rattle.std.proofs.Common.{Option, Some, None}
 use Rattle.std.proofs.lemmas.Iterator.{index_from_first}
-use Rattle.text.proofs.Lists.{by-test, and-false, take_rest, drop-step}
+use Rattle.text.proofs.Lists.{by-test, and-false, take_rest}
 use Rattle.number.proofs.Signs.{signed-accepted}
 use Rattle.scope.specs.Index.{padded, bit, range, up_to_byte, parse_inside, parse_index}
-
--- ---- the first x: before i there is none, and the answer is that from i on
-pub record Sought (x : ℕ) (s : List ℕ) (i : ℕ) : Type 0 where
-  pub within : i ≤ length s
-  pub ahead : length (up_to_byte x s) ≡ i + length (up_to_byte x (drop i s))
-
-pub sought-start : (x : ℕ) (s : List ℕ) → Sought x s 0
-sought-start x s = record { within = omega arith; ahead = omega arith }
-
-module _ (x : ℕ) (s : List ℕ) (i : ℕ) (q : Sought x s i) where
-  pub sought-more : i < length s → (get_or s i 0 ≡ x → ⊥) → Sought x s (i + 1)
-  unfolding up_to_byte
-  sought-more h n =
-      record { within = omega arith; ahead = q.ahead ∙ rw (drop-step s i h, ne_eqb (get_or s i 0) x n) (omega arith) }
-
-  pub sought-found : i < length s → get_or s i 0 ≡ x → i ≡ length (up_to_byte x s)
-  unfolding up_to_byte
-  sought-found h e = sym (q.ahead ∙ rw (drop-step s i h, eq-eqb (get_or s i 0) x e) (omega arith))
-
-  pub sought-none : length s ≤ i → i ≡ length (up_to_byte x s)
-  unfolding up_to_byte
-  sought-none h = let e = q.ahead in omega (arith, rw (drop_of_length-le s h) at e, q.within)
 
 -- ---- the bytes before the first x are as many as its place, which r is, says
 pub up-length : (x : ℕ) (s : List ℕ) (r : Option ℕ)
@@ -51,7 +29,7 @@ up-length x s r h =
     sym (index_from_first (λ l. length (up_to_byte x l)) (λ b. b ≡ x) (λ b. b ≢ x) refl (λ b l e. rw (eq-eqb b x e)) (λ b l e. rw (ne_eqb b x e) (omega arith)) s r h)
 
 -- what stands before it is the front of the text
-up-front : (x : ℕ) (s : List ℕ) → take (length (up_to_byte x s)) s ≡ up_to_byte x s
+pub up-front : (x : ℕ) (s : List ℕ) → take (length (up_to_byte x s)) s ≡ up_to_byte x s
 unfolding up_to_byte
 up-front x [] = refl
 up-front x (b ∷ s) = by-test (eqb b x) (λ q. rw q) (λ q. rw q (ap (λ (l : List ℕ). b ∷ l) (up-front x s)))

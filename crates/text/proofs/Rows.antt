@@ -127,3 +127,7 @@ text_in_lem t = take-append_seam t (replicate (32 - length t) 0)
 -- joining rows of texts that fit together
 pub joins : (a b : List ℕ) → length (a ++ b) ≤ 32 → spelled (take 32 (text_in (spelled a) ++ text_in (spelled b))) ≡ spelled (a ++ b)
 joins a b h = rw (text_in_lem a, text_in_lem b, take_all 32 (a ++ b) h)
+
+-- what a short text answers as its bytes
+pub spelled_text : {x : Spelled} {r : List ℕ} (t : List ℕ) → x ≡ spelled t → r ≡ text_in x → r ≡ t
+spelled_text t e q = q ∙ rw e (text_in_lem t)

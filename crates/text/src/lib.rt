@@ -20,6 +20,16 @@ pub struct Spelled {
     pub len: usize,
 }
 
+impl Spelled {
+    // The text, without the zeros behind it.
+    #[tactic(auto, unfolding(crate::specs::Texts::text_in))]
+    pub fn as_bytes(&self) -> &[u8]
+        ensures { result.now ≡ text_in self.now }
+    {
+        front(&self.bytes, self.len)
+    }
+}
+
 #[tactic(auto, unfolding(crate::specs::Bytes::is_blank))]
 pub fn whitespace_byte(b: u8) -> bool
     ensures { result ≡ is_blank b }
@@ -91,7 +101,7 @@ pub fn spell(s: &[u8]) -> Spelled
 pub fn join(a: Spelled, b: Spelled) -> Spelled
     ensures { result ≡ spelled (take 32 (text_in a ++ text_in b)) }
 {
-    join_texts(front(&a.bytes, a.len), front(&b.bytes, b.len))
+    join_texts(a.as_bytes(), b.as_bytes())
 }
 
 // The first bytes of a row, as far as it goes.

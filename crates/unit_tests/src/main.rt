@@ -81,7 +81,7 @@ fn after(id: IdCode) -> IdCode {
 }
 
 fn reads_back(spelled: Spelled, id: IdCode) -> bool {
-    match IdCode::from_str(replay::front(&spelled.bytes, spelled.len)) {
+    match IdCode::from_str(spelled.as_bytes()) {
         Ok(i) => i.0 == id.0,
         Err(_) => false,
     }

@@ -4,7 +4,7 @@
 pub mod vector;
 
 ghost use Rattle.std.specs.Prelude.{◌≡◌};
-ghost use Rattle.value.specs.Values.{value_of, value_text, of_bool, value_byte};
+ghost use Rattle.value.specs.Values.{value_of, value_text, value_byte};
 ghost use Rattle.value.specs.Numbers.{value_number, value_for, number_meant};
 
 // A four-valued logic scalar value.
@@ -37,13 +37,6 @@ impl Value {
             [b] => Value::parse(*b),
             _ => None,
         }
-    }
-
-    // `true` is `V1`, `false` is `V0`.
-    pub fn from_bool(v: bool) -> Value
-        ensures { result ≡ of_bool v }
-    {
-        if v { Value::V1 } else { Value::V0 }
     }
 
     // The byte that a value is written as.
@@ -90,5 +83,16 @@ impl Value {
             2 => Value::X,
             _ => Value::Z,
         }
+    }
+}
+
+// `true` is `V1`, `false` is `V0`.
+impl From<bool> for Value {
+    ghost use Rattle.value.specs.Values.{of_bool};
+
+    ghost from_gives = { λ v r. r ≡ of_bool v };
+
+    fn from(v: bool) -> Value {
+        if v { Value::V1 } else { Value::V0 }
     }
 }

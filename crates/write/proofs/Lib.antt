@@ -1,3 +1,4 @@
--- `Spelling` has a value's one byte, `Ids` the ids that may be written, `Outcomes` the ways to answer, one law for each.
+-- `Ids` has the ids that may be written, `Open` the simulation command that may be ended, `Outcomes` the ways to answer, one law for each.
 pub mod Ids
+pub mod Open
 pub mod Outcomes

@@ -11,8 +11,11 @@ use Rattle.command.specs.declared.Refusal.{Refusal}
 use Rattle.idcode.specs.declared.IdCode.{IdCode}
 use Rattle.text.specs.Texts.{limit, too_long, put_answer, put_bytes}
 use Rattle.text.proofs.Limit.{too_long_lem, not-long, none-long, outside-long}
-use Rattle.write.specs.Call.{Outcome, outcome, written, misplaced, call, added, Does, Adds}
+use Rattle.text.proofs.Rows.{text_in_lem}
+use Rattle.write.specs.Call.{Outcome, outcome, written, misplaced, call, Does, Adds}
 use Rattle.write.specs.declared.Writer.{Writer}
+use Rattle.write.proofs.Ids.{id-none, id-some}
+use Rattle.write.proofs.Open.{open-yes, open-no}
 
 module _ (out ok : Bool) (w : Writer) (b o : List ℕ) where
   pub bad-place : out ≡ true → Does (Err Refusal.BadPlace) o (outcome out ok w b o)
@@ -29,17 +32,8 @@ module _ (out ok : Bool) (w : Writer) (b o : List ℕ) where
   unfolding outcome
   laid_out e f q d g h = rw (e, f, ← g, ← h) (record { answers = q ∙ ap (written _) d.0; leaves = d.1 })
 
--- a text was judged by its bytes v
-module _ (P : List ℕ → Bool) {v t : List ℕ} {r : Bool} (e : v ≡ t) (q : r ≡ P v) where
-  pub judged-no : r ≡ false → P t ≡ false
-  judged-no h = ap P (sym e) ∙ sym q ∙ h
-
-  pub judged-yes : r ≡ true → P t ≡ true
-  judged-yes h = ap P (sym e) ∙ sym q ∙ h
-
--- the id that was given is told beside the answer
-pub added_of : (i : IdCode) {r : Result (ℕ × Writer) Refusal} {o : List ℕ} {x : Outcome} → Does r o x → Adds i (added i r) o x
-added_of i d = record { answers = ap (added i) d.answers; leaves = d.leaves }
+-- what every answer rests on, besides the definitions
+pub ruleset outcomes = (none-long, text_in_lem, id-none, id-some, open-yes, open-no)
 
 -- ---- any command: an input over the limit is refused, and one within it says nothing about a command that has no text
 module _ (w : Writer) (s : List ℕ) where
@@ -68,6 +62,8 @@ module _ (w : Writer) (s : List ℕ) where
     pub no_text : length s ≤ limit → {r : Result (ℕ × Writer) Refusal} {left : List ℕ} → Does r left (call w [] k o) → Does r left (call w s k o)
     unfolding call
     no_text h d = rw (m ∙ not-long s h ∙ sym (n ∙ none-long), e) d
+
+pub ruleset any_command = (long-call)
 
 -- ---- the statements pin the answer and every byte
 pub determined : {r r' : Result (ℕ × Writer) Refusal} {o o' : List ℕ} (x : Outcome) → Does r o x → Does r' o' x → (r ≡ r') × (o ≡ o')

@@ -8,7 +8,7 @@ ghost use Rattle.text.specs.Bytes.{bytes};
 ghost use Rattle.text.specs.Texts.{part, outside};
 ghost use Rattle.write_check.specs.Check.{is_remark};
 ghost use Rattle.write.specs.Call.{call, outcome, written, new_var, Does, Adds};
-ghost use Rattle.write.specs.Layout.{fresh, raised as raised_id, is_open};
+ghost use Rattle.write.specs.Layout.{fresh, raised as raised_id};
 ghost use Rattle.emit.specs.Put.{concat};
 
 use command::{Command, Refusal, SimulationCommand, Time};
@@ -37,17 +37,8 @@ pub type Added = Result<(usize, Writer, IdCode), Refusal>;
 // No id: the largest number has no text.
 const NO_ID: u64 = 0xffff_ffff_ffff_ffff;
 
-// Whether it is `k` that is open.
-fn names_open(o: Option<SimulationCommand>, k: SimulationCommand) -> bool
-    ensures { result ≡ is_open o k }
-{
-    match o {
-        None => false,
-        Some(j) => j.number() == k.number(),
-    }
-}
-
 // The next id after a variable: past it, where it is not below.
+#[tactic(auto, using(crate::proofs::Ids::compared), unfolding(crate::specs::Layout::raised))]
 fn raised(i: u64, n: u64) -> u64
     requires { i < 18446744073709551615 }
     ensures { result ≡ raised_id i n }
@@ -58,6 +49,7 @@ fn raised(i: u64, n: u64) -> u64
     n
 }
 
+#[tactic(auto, using(crate::proofs::Outcomes::outcomes), unfolding(crate::specs::Call::call, crate::specs::Call::outcome, crate::specs::Layout::state_after, crate::specs::Layout::layout))]
 impl Writer {
     // Nothing is open, and the first id comes next.
     pub fn new() -> Writer
@@ -74,34 +66,8 @@ impl Writer {
     fn laid(self, p: Option<usize>) -> Written
         ensures { result ≡ written self p }
     {
-        match p {
-            Some(n) => Ok((n, self)),
-            None => Err(Refusal::NoRoom),
-        }
-    }
-
-    fn at_depth(self, depth: u64) -> Writer
-        ensures { result ≡ record { depth = depth; id = self.id; sim = self.sim } }
-    {
-        let id = self.id;
-        let sim = self.sim;
-        Writer { depth, id, sim }
-    }
-
-    fn with_id(self, id: IdCode) -> Writer
-        ensures { result ≡ record { depth = self.depth; id = id; sim = self.sim } }
-    {
-        let depth = self.depth;
-        let sim = self.sim;
-        Writer { depth, id, sim }
-    }
-
-    fn with_open(self, sim: Option<SimulationCommand>) -> Writer
-        ensures { result ≡ record { depth = self.depth; id = self.id; sim = sim } }
-    {
-        let depth = self.depth;
-        let id = self.id;
-        Writer { depth, id, sim }
+        let n = p.ok_or(Refusal::NoRoom)?;
+        Ok((n, self))
     }
 
     // Writes a `$comment` command.
@@ -146,16 +112,14 @@ impl Writer {
         if 99999999 < ts {
             return Err(Refusal::NotWritable);
         }
-        let n = number::decimal(ts as u64);
-        let digits = n.bytes;
-        let u = unit.spell();
-        let name = u.bytes;
+        let digits = number::decimal(ts as u64);
+        let name = unit.spell();
         self.laid(emit::emit_closed(
             &command::TIMESCALE,
             b" ",
-            text::front(&digits, n.len),
+            digits.as_bytes(),
             b" ",
-            text::front(&name, u.len),
+            name.as_bytes(),
             b' ',
             out,
         ))
@@ -176,18 +140,12 @@ impl Writer {
         if 64 <= depth {
             return Err(Refusal::NotWritable);
         }
-        let k = t.spell();
-        let name = k.bytes;
-        let w = self.at_depth(depth + 1);
-        w.laid(emit::emit_closed(
-            &command::SCOPE,
-            b" ",
-            text::front(&name, k.len),
-            b" ",
-            v,
-            b' ',
-            out,
-        ))
+        let name = t.spell();
+        let w = Writer {
+            depth: depth + 1,
+            ..self
+        };
+        w.laid(emit::emit_closed(&command::SCOPE, b" ", name.as_bytes(), b" ", v, b' ', out))
     }
 
     // Writes a `$scope` command for a module.
@@ -205,7 +163,10 @@ impl Writer {
         if depth == 0 {
             return Err(Refusal::NotWritable);
         }
-        let w = self.at_depth(depth - 1);
+        let w = Writer {
+            depth: depth - 1,
+            ..self
+        };
         w.laid(emit::emit_bare(&command::UPSCOPE, out))
     }
 
@@ -237,7 +198,10 @@ impl Writer {
             return Err(Refusal::NotWritable);
         }
         let last = self.id;
-        let w = self.with_id(IdCode(raised(code, last.0)));
+        let w = Writer {
+            id: IdCode(raised(code, last.0)),
+            ..self
+        };
         w.laid(emit_var::emit_var(var_type, width, id, v, index, out))
     }
 
@@ -254,10 +218,8 @@ impl Writer {
         ensures { Adds self.id result out.new (call self src.now (new_var self var_type width reference index) out.old) }
     {
         let id = self.id;
-        match self.var_def(src, var_type, width, id, reference, index, out) {
-            Ok((n, w)) => Ok((n, w, id)),
-            Err(e) => Err(e),
-        }
+        let (n, w) = self.var_def(src, var_type, width, id, reference, index, out)?;
+        Ok((n, w, id))
     }
 
     // Adds a `$var` for a wire with the next available id, and answers it.
@@ -367,25 +329,27 @@ impl Writer {
     pub fn begin(self, c: SimulationCommand, out: &mut [u8]) -> Written
         ensures { Does result out.new (call self [] (Command.Begin c) out.old) }
     {
-        let k = c.spell();
-        let name = k.bytes;
-        let w = self.with_open(Some(c));
-        w.laid(emit::emit(b"$", text::front(&name, k.len), b"\n", b"", b"", out))
+        let name = c.spell();
+        let w = Writer {
+            sim: Some(c),
+            ..self
+        };
+        w.laid(emit::emit(b"$", name.as_bytes(), b"\n", b"", b"", out))
     }
 
     // Writes an `$end` to end the simulation command `c`, which must be the open one.
     pub fn end(self, c: SimulationCommand, out: &mut [u8]) -> Written
         ensures { Does result out.new (call self [] (Command.End c) out.old) }
     {
-        let sim = self.sim;
-        if !names_open(sim, c) {
+        if self.sim != Some(c) {
             return Err(Refusal::NotWritable);
         }
-        let w = self.with_open(None);
+        let w = Writer { sim: None, ..self };
         w.laid(emit::emit(&command::END, b"\n", b"", b"", b"", out))
     }
 
     // Writes a command as read by the parser.
+    #[tactic(auto, using(crate::proofs::Outcomes::any_command))]
     pub fn command(self, src: &[u8], c: Command, out: &mut [u8]) -> Written
         ensures { Does result out.new (call self src.now c out.old) }
     {

@@ -231,6 +231,6 @@ pub fn id_code(text: &[u8], code: &mut u64) -> u64
             *code = i.0;
             OK
         }
-        Err(e) => Refusal::from_id(e).number(),
+        Err(e) => Refusal::from(e).number(),
     }
 }

@@ -112,10 +112,6 @@ module _ (o : List ℕ) (at : ℕ) (w : Writer) (o' : List ℕ) (at' : ℕ) (w' 
       (x.0, x.1, λ more. ap (pour o at w) (append_assoc a b more) ∙ f (b ++ more) ∙ x.2 more)
   then-writes f row (Err (e, at'', v)) left x = λ more. ap (pour o at w) (append_assoc a b more) ∙ f (b ++ more) ∙ x more
 
-pub then-stops : (o : List ℕ) (at : ℕ) (w : Writer) {x : Outcome} (a b : List Meaning) → ((more : List Meaning) → pour o at w (a ++ more) ≡ x)
-    → (more : List Meaning) → pour o at w ((a ++ b) ++ more) ≡ x
-then-stops o at w a b f more = ap (pour o at w) (append_assoc a b more) ∙ f (b ++ more)
-
 -- ---- all of them, in closed form
 abbrev Closed : List ℕ → ℕ → Writer → List Meaning → List Meaning → Outcome
 Closed o at w all l =

@@ -68,12 +68,9 @@ fn write_kept(w: Writer, src: &[u8], h: Header, out: &mut [u8]) -> Wrote
     requires { (too_long src.now ≡ false) × (kept_outside src.now h.date ≡ false) × (kept_outside src.now h.version ≡ false) }
     ensures { Writes out.old 0 w (kept_meanings src.now h) 0 result out.new }
 {
-    let date = h.date;
-    let version = h.version;
-    let timescale = h.timescale;
-    match write_date(w, src, date, out) {
-        Ok((_, at, v)) => match write_version(v, src, version, out, at) {
-            Ok((_, past, u)) => write_timescale(u, src, timescale, out, past),
+    match write_date(w, src, h.date, out) {
+        Ok((_, at, v)) => match write_version(v, src, h.version, out, at) {
+            Ok((_, past, u)) => write_timescale(u, src, h.timescale, out, past),
             Err((e, past, u)) => Err((e, past, u)),
         },
         Err((e, at, v)) => Err((e, at, v)),
@@ -137,7 +134,7 @@ fn write_rows(
     }
 }
 
-// The items of the scope `me` from row `from` on.
+// The items of the scope `me` from row `from` on. A `while`, since the row moves by what an item took.
 #[cycle(write_item_write_scope)]
 fn write_scope(
     w: Writer,
@@ -166,9 +163,7 @@ fn write_scope(
                 place = past;
                 v = u;
             }
-            Err((e, past, u)) => {
-                return Err((e, past, u));
-            }
+            Err((e, past, u)) => return Err((e, past, u)),
         }
     }
     Ok((i, place, v))
@@ -226,21 +221,20 @@ fn write_vars(
 {
     let me = tree::parent_at(rows, from);
     let mut v = w;
-    let mut i = from;
     let mut place = at;
-    while i < n && tree::is_var_of(rows, i, me) {
+    for i in from..n {
+        if !tree::is_var_of(rows, i, me) {
+            return Ok((i, place, v));
+        }
         match write_var(v, src, rows::peek::var_at(rows, i), i + 1, out, place) {
-            Ok((next, past, u)) => {
-                i = next;
+            Ok((_, past, u)) => {
                 place = past;
                 v = u;
             }
-            Err((e, past, u)) => {
-                return Err((e, past, u));
-            }
+            Err((e, past, u)) => return Err((e, past, u)),
         }
     }
-    Ok((i, place, v))
+    Ok((n, place, v))
 }
 
 fn write_var(w: Writer, src: &[u8], v: Var, row: usize, out: &mut [u8], at: usize) -> Wrote

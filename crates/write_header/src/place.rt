@@ -13,15 +13,9 @@ pub fn misplaced(src: &[u8], h: Header, rows: &[u64], count: usize) -> bool
     if text::LIMIT < src.len() {
         return true;
     }
-    let date = h.date;
-    if kept_outside(src, date) {
-        return true;
-    }
-    let version = h.version;
-    if kept_outside(src, version) {
-        return true;
-    }
-    tree::place::some_outside(src, rows, count)
+    kept_outside(src, h.date)
+        || kept_outside(src, h.version)
+        || tree::place::some_outside(src, rows, count)
 }
 
 fn kept_outside(src: &[u8], k: Option<Text>) -> bool

@@ -3,7 +3,7 @@ use mathlib.Core.Path.{ap}
 use native.Mathlib.Omega.{arith}
 use lib.ListN.{length}
 use Rattle.number.proofs.Writing.{one-digit, length-one}
-use Rattle.emit_var.proofs.Putting.{both, two_digits, part_count, part-full}
+use Rattle.emit_var.proofs.Putting.{both, two_digits, part-full}
 use Rattle.emit_var.proofs.put_number.Goals as goal
 
 pub put_byte-requires : goal.put_byte-requires
@@ -28,13 +28,5 @@ returns-then-n-lt100 c =
     both c.args.out.now c.args.at _ _ (two_digits _ c.if-n-lt10.false c.if-n-lt100.true) c.requires c.put_byte-o.ensures
     c.put_byte-then-n-lt100.ensures
 
-pub returns-in-Some : goal.returns-in-Some
-returns-in-Some c =
-    part_count _ c.args.out.now c.args.at c.requires c.put_decimal.ensures _ c.in-Some.is
-
-pub overflow_add-result : goal.overflow_add-result
-overflow_add-result c = record { fits = omega (arith, (part_count _ c.args.out.now c.args.at c.requires c.put_decimal.ensures _ c.in-Some.is).0) }
-
 pub returns-in-None : goal.returns-in-None
-returns-in-None c =
-    absurd (part-full _ c.args.out.now c.args.at c.requires c.put_decimal.ensures c.in-None.is)
+returns-in-None c = part-full _ c.args.out.now c.args.at c.requires c.put_decimal.ensures c.in-None.is

@@ -3,43 +3,25 @@ use mathlib.Core.Path.{ap}
 use native.Mathlib.Omega.{arith}
 use lib.ListN.{length}
 use Rattle.text.specs.Bytes.{bytes}
-use Rattle.number.proofs.Negating.{write-plain, write-from-zero, write-wide, write-other, write-size, write-digits}
+use Rattle.number.proofs.Negating.{write-from-zero, signed_is}
 use Rattle.emit_var.proofs.Putting.{both}
 use Rattle.emit_var.proofs.put_signed.Goals as goal
 
 -- not below zero
 pub put_number-requires : goal.put_number-requires
-put_number-requires c =
-    rw (write-from-zero _ c.ranges.a c.if-a-ge0.true) c.requires
+put_number-requires c = rw (c.unsigned_abs-size.ensures.value, write-from-zero _ c.ranges.a c.if-a-ge0.true) c.requires
 
 pub returns-then-a-ge0 : goal.returns-then-a-ge0
-returns-then-a-ge0 c =
-    rw (write-from-zero _ c.ranges.a c.if-a-ge0.true) at c.put_number.ensures
+returns-then-a-ge0 c = rw (c.unsigned_abs-size.ensures.value, write-from-zero _ c.ranges.a c.if-a-ge0.true) at c.put_number.ensures
 
 -- below zero
 pub put_byte-n-requires : goal.put_byte-n-requires
-put_byte-n-requires c =
-    omega (arith, ap length (write-digits _ c.ranges.a c.if-a-ge0.false))
-
-pub overflow_cast-a-2 : goal.overflow_cast-a-2
-overflow_cast-a-2 c = write-wide _ c.ranges.a
-
-pub overflow_sub-a : goal.overflow_sub-a
-overflow_sub-a c =
-    write-other _ c.ranges.a c.if-a-ge0.false
-
-pub overflow_cast-a-3 : goal.overflow_cast-a-3
-overflow_cast-a-3 c =
-    write-size _ c.ranges.a c.if-a-ge0.false
+put_byte-n-requires c = omega (arith, ap length (signed_is _ c.ranges.a c.if-a-ge0.false))
 
 pub put_number-requires-2 : goal.put_number-requires-2
-put_number-requires-2 c =
-    omega (arith, ap length (write-digits _ c.ranges.a c.if-a-ge0.false))
+put_number-requires-2 c = rw c.unsigned_abs-size.ensures.value (omega (arith, ap length (signed_is _ c.ranges.a c.if-a-ge0.false)))
 
 pub returns : goal.returns
 returns c =
-    both c.args.out.now c.args.at (bytes "-") _ (write-digits _ c.ranges.a c.if-a-ge0.false) c.requires c.put_byte-n.ensures
-    c.put_number-2.ensures
-
-pub overflow_cast-a : goal.overflow_cast-a
-overflow_cast-a c = write-plain _ c.ranges.a c.if-a-ge0.true
+    both c.args.out.now c.args.at (bytes "-") _ (signed_is _ c.ranges.a c.if-a-ge0.false) c.requires c.put_byte-n.ensures
+    (rw c.unsigned_abs-size.ensures.value at c.put_number-2.ensures)

@@ -8,7 +8,7 @@ use lib.ListN.{length}
 use Rattle.text.specs.Bytes.{bytes}
 use Rattle.scope.specs.Types.{var_name}
 use Rattle.scope.specs.declared.VarType.{VarType}
-use Rattle.emit.proofs.Storing.{row-text}
+use Rattle.text.proofs.Rows.{spelled_text}
 use Rattle.emit_var.specs.Define.{usual}
 use Rattle.emit_var.proofs.Putting.{Due, due, fits, more}
 use Rattle.emit_var.proofs.put_type.Goals as goal
@@ -32,17 +32,17 @@ whole t o at h = due o at _ refl h
 pub put-n-requires : goal.put-n-requires
 put-n-requires c =
     let x = c.args in
-    rw (row-text _ c.spell-k.ensures c.front.ensures)
+    rw (spelled_text _ c.spell-kind.ensures c.as_bytes.ensures)
     (fits (bytes (var_name x.t)) (bytes " ") (whole x.t x.out.now x.at c.requires))
 
 pub returns-in_default : goal.returns-in_default
 returns-in_default c =
     let x = c.args in
-    let n = rw (row-text _ c.spell-k.ensures c.front.ensures) at c.put-n.ensures in
+    let n = rw (spelled_text _ c.spell-kind.ensures c.as_bytes.ensures) at c.put-n.ensures in
     (more (bytes (var_name x.t)) (bytes " ") (whole x.t x.out.now x.at c.requires) n).done c.put_byte.ensures
 
 pub put_byte-requires : goal.put_byte-requires
 put_byte-requires c =
     let x = c.args in
-    let n = rw (row-text _ c.spell-k.ensures c.front.ensures) at c.put-n.ensures in
+    let n = rw (spelled_text _ c.spell-kind.ensures c.as_bytes.ensures) at c.put-n.ensures in
     (more (bytes (var_name x.t)) (bytes " ") (whole x.t x.out.now x.at c.requires) n).room

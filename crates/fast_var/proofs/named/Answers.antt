@@ -1,13 +1,6 @@
 -- Goals of `fast_var::named` that the search leaves.
-use Rattle.std.proofs.Common.{arith}
 use Rattle.fast_var.proofs.Definitions.{goes-name, ends-name}
 use Rattle.fast_var.proofs.named.Goals as goal
-
-pub overflow_add-end : goal.overflow_add-end
-overflow_add-end c = record { fits = omega (arith, (c.word_end-end.ensures c.if-end-start.false).inside, c.requires.1) }
-
-pub spaces_end-last-requires : goal.spaces_end-last-requires
-spaces_end-last-requires c = omega (arith, (c.word_end-end.ensures c.if-end-start.false).inside)
 
 pub returns-then-ends : goal.returns-then-ends
 returns-then-ends c =

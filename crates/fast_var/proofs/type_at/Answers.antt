@@ -1,5 +1,5 @@
 -- Goals of `fast_var::type_at` that the search leaves.
-use Rattle.std.proofs.Common.{◌≡◌, ℕ, ◌+◌, Bool, true, false, cond, List, sym, refl, ap, ◌∙◌, arith, ltb-false, Some}
+use Rattle.std.proofs.Common.{◌≡◌, ℕ, ◌+◌, Bool, true, false, cond, List, sym, ap, ◌∙◌, arith, ltb-false, Some}
 use Rattle.scope.specs.Types.{parse_var_type}
 use Rattle.scope.specs.declared.VarType.{VarType}
 use Rattle.scope.proofs.Types.{var-names}
@@ -21,14 +21,8 @@ told c p q =
     let x = c.args in
     usual-typed _ _ (odd x.input.now x.at) p q (c.is_usual.ensures c.if-is_usual.true)
 
-pub bounds-input-at : goal.bounds-input-at
-bounds-input-at c = let k = told (goal.at.bounds-input-at c).Then-is_usual refl refl in omega (arith, k.0.some, k.0.inside)
-
 pub returns-then-is_usual : goal.returns-then-is_usual
 returns-then-is_usual c = told (goal.at.returns-then-is_usual c).Then-is_usual c.usual_type.ensures c.usual_end.ensures
-
-pub slice_bounds-from_str-end : goal.slice_bounds-from_str-end
-slice_bounds-from_str-end c = let w = c.word_end-end.ensures c.if-end-at.false in omega (arith, w.inside)
 
 pub returns-in-Some : goal.returns-in-Some
 returns-in-Some c =

@@ -1,5 +1,6 @@
 -- Goals of `find::find` that the search leaves.
-use mathlib.Core.Path.{sym, ◌∙◌}
+use Rattle.std.specs.Prelude.{Ok}
+use mathlib.Core.Path.{ap, sym, ◌∙◌}
 use Rattle.text.proofs.Limit.{too_long_lem, not-long}
 use Rattle.find.specs.Find.{found}
 use Rattle.find.proofs.find.Goals as goal
@@ -14,4 +15,4 @@ returns-then-some_outside c = rw (not-long _ c.if-input-gt-LIMIT.false, sym c.so
 
 pub returns : goal.returns
 unfolding found
-returns c = rw (not-long _ c.if-input-gt-LIMIT.false, sym c.some_outside.ensures ∙ c.if-some_outside.false) c.seek.ensures
+returns c = rw (not-long _ c.if-input-gt-LIMIT.false, sym c.some_outside.ensures ∙ c.if-some_outside.false) (ap Ok c.seek.ensures)

@@ -27,17 +27,11 @@ loop-name-preserved c =
     let len = c.name_len-len.result in
     let rows = rows_of a.rows.now a.count in (
       omega (arith, l.invariant.0, c.if-left-len.false, left-length a.input.now a.kind rows l.parent a.path.now l.at len c.name_len-len.ensures),
-      l.invariant.1 ∙ rw c.in-At.is at (next-name a.input.now a.kind rows l.parent a.path.now l.at len c.name_len-len.ensures c.if-left-len.false c.first_named-in-loop-name.result c.first_named-in-loop-name.ensures),
+      l.invariant.1 ∙ rw c.in_ok-n.was at (next-name a.input.now a.kind rows l.parent a.path.now l.at len c.name_len-len.ensures c.if-left-len.false c.first_named-in-loop-name.result c.first_named-in-loop-name.ensures),
     )
 
-pub returns-in-None : goal.returns-in-None
-returns-in-None c =
+pub returns-in_err-n : goal.returns-in_err-n
+returns-in_err-n c =
     let a = c.args in
     let l = c.loop-name in
-    sym (l.invariant.1 ∙ rw c.in-None.is at (next-name a.input.now a.kind (rows_of a.rows.now a.count) l.parent a.path.now l.at c.name_len-len.result c.name_len-len.ensures c.if-left-len.false c.first_named-in-loop-name.result c.first_named-in-loop-name.ensures))
-
-pub returns-in-Refused : goal.returns-in-Refused
-returns-in-Refused c =
-    let a = c.args in
-    let l = c.loop-name in
-    sym (l.invariant.1 ∙ rw c.in-Refused.is at (next-name a.input.now a.kind (rows_of a.rows.now a.count) l.parent a.path.now l.at c.name_len-len.result c.name_len-len.ensures c.if-left-len.false c.first_named-in-loop-name.result c.first_named-in-loop-name.ensures))
+    c.from_residual.ensures ∙ sym (l.invariant.1 ∙ rw c.in_err-n.was at (next-name a.input.now a.kind (rows_of a.rows.now a.count) l.parent a.path.now l.at c.name_len-len.result c.name_len-len.ensures c.if-left-len.false c.first_named-in-loop-name.result c.first_named-in-loop-name.ensures))

@@ -8,65 +8,6 @@ use Rattle.header.proofs.Levels.{keep-here}
 use Rattle.header.proofs.Table.{settled}
 use Rattle.header.proofs.read_header.Goals as goal
 
-pub loop-d-init : goal.loop-d-init
-loop-d-init c = (omega (arith, c.capacity-cap.ensures), omega (arith, c.capacity-cap.ensures), omega arith, refl, rw (c.capacity-cap.ensures, c.nothing-header.ensures))
-
-pub take_item-requires : goal.take_item-requires
-take_item-requires c = let i = c.loop-d.invariant in (i.0, omega (arith, i.1, i.3), omega arith)
-
-pub overflow_add-n : goal.overflow_add-n
-overflow_add-n c =
-    let g = rw c.in-Leaf.is at c.take_item.ensures in
-    omega (arith, g.0, c.loop-d.invariant.0)
-
-pub loop-d-smaller-in-Leaf : goal.loop-d-smaller-in-Leaf
-loop-d-smaller-in-Leaf c =
-    let g = rw c.in-Leaf.is at c.take_item.ensures in
-    g.1
-
-pub loop-d-preserved-in-Leaf : goal.loop-d-preserved-in-Leaf
-loop-d-preserved-in-Leaf c =
-    let i = c.loop-d.invariant in
-    let g = rw c.in-Leaf.is at c.take_item.ensures in
-    (i.0, i.1, omega (arith, g.0), c.take_item.auto.rows ∙ i.3, i.4 ∙ g.2 [] c.loop-d.header (refl, refl))
-
-pub overflow_add-n-in-Scope : goal.overflow_add-n-in-Scope
-overflow_add-n-in-Scope c =
-    let g = rw c.in-Scope.is at c.take_item.ensures in
-    omega (arith, g.1.0, c.loop-d.invariant.0)
-
-pub overflow_sub-parse_scope : goal.overflow_sub-parse_scope
-overflow_sub-parse_scope c = omega arith
-
-pub parse_scope-requires : goal.parse_scope-requires
-parse_scope-requires c =
-    let i = c.loop-d.invariant in
-    let g = rw c.in-Scope.is at c.take_item.ensures in
-    let same = c.take_item.auto.rows ∙ i.3 in
-    (omega (arith, g.1.0), i.0, omega (arith, same, i.1), omega arith)
-
-pub loop-d-smaller-in-Ok : goal.loop-d-smaller-in-Ok
-loop-d-smaller-in-Ok c =
-    let g = rw c.in-Scope.is at c.take_item.ensures in
-    let f = rw c.in-Ok.is at c.parse_scope.ensures in
-    omega (arith, g.1.1, f.1)
-
-pub loop-d-preserved-in-Ok : goal.loop-d-preserved-in-Ok
-loop-d-preserved-in-Ok c =
-    let l = c.loop-d in
-    let i = l.invariant in
-    let g = rw c.in-Scope.is at c.take_item.ensures in
-    let f = rw c.in-Ok.is at c.parse_scope.ensures in (
-      i.0,
-      i.1,
-      f.0,
-      c.parse_scope.auto.rows ∙ c.take_item.auto.rows ∙ i.3,
-      i.4 ∙ g.1.2 [] l.header (refl, refl) ∙ f.2 [] l.header refl,
-    )
-
-pub shape_of-rows-in-Err : goal.shape_of-rows-in-Err
-shape_of-rows-in-Err c = c.parse_scope.auto.rows ∙ c.take_item.auto.rows ∙ c.loop-d.invariant.3
-
 pub returns-in-Err : goal.returns-in-Err
 returns-in-Err c =
     let l = c.loop-d in

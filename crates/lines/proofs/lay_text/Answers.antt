@@ -1,23 +1,12 @@
 -- Goals of `lines::lay_text` that the search leaves.
 use native.Mathlib.Nat.{zero-add}
-use native.Mathlib.Omega.{arith}
-use Rattle.lines.proofs.Laying.{laid_none, room, laid}
+use Rattle.lines.proofs.Laying.{laid_none, laid}
 use Rattle.lines.proofs.lay_text.Goals as goal
 
 pub returns-then-not-has_room : goal.returns-then-not-has_room
 returns-then-not-has_room c =
     let x = c.args in
     laid_none x.name.now x.time.now x.line.now x.value.now x.out.now 0 _ (zero-add _) c.has_room.ensures c.if-not-has_room.true-raw
-
-pub put_five-n-requires : goal.put_five-n-requires
-put_five-n-requires c =
-    let x = c.args in
-    omega (arith, room x.name.now x.time.now x.line.now x.value.now x.out.now 0 _ (zero-add _) c.has_room.ensures c.if-not-has_room.false-raw)
-
-pub put_five-requires : goal.put_five-requires
-put_five-requires c =
-    let x = c.args in
-    omega (arith, room x.name.now x.time.now x.line.now x.value.now x.out.now 0 _ (zero-add _) c.has_room.ensures c.if-not-has_room.false-raw)
 
 pub returns : goal.returns
 returns c =

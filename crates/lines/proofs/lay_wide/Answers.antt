@@ -1,22 +1,11 @@
 -- Goals of `lines::lay_wide` that the search leaves.
-use native.Mathlib.Omega.{arith}
-use Rattle.lines.proofs.Laying.{wide, wide-length, laid_none, room, laid}
+use Rattle.lines.proofs.Laying.{wide, wide-length, laid_none, laid}
 use Rattle.lines.proofs.lay_wide.Goals as goal
 
 pub returns-then-not-has_room : goal.returns-then-not-has_room
 returns-then-not-has_room c =
     let x = c.args in
     laid_none x.name.now x.time.now x.line.now (wide x.zeros x.value.now) x.out.now x.zeros _ (wide-length x.zeros x.value.now) c.has_room.ensures c.if-not-has_room.true-raw
-
-pub put_five-n-requires : goal.put_five-n-requires
-put_five-n-requires c =
-    let x = c.args in
-    omega (arith, room x.name.now x.time.now x.line.now (wide x.zeros x.value.now) x.out.now x.zeros _ (wide-length x.zeros x.value.now) c.has_room.ensures c.if-not-has_room.false-raw)
-
-pub put_wide-requires : goal.put_wide-requires
-put_wide-requires c =
-    let x = c.args in
-    omega (arith, room x.name.now x.time.now x.line.now (wide x.zeros x.value.now) x.out.now x.zeros _ (wide-length x.zeros x.value.now) c.has_room.ensures c.if-not-has_room.false-raw)
 
 pub returns : goal.returns
 returns c =

@@ -5,7 +5,7 @@ use Rattle.parser.proofs.Ahead.{good-valid}
 use Rattle.parser.proofs.All.{less-left}
 use Rattle.list_step.specs.declared.Step.{Step}
 use Rattle.list_step.proofs.Roles.{Saw, saw, read-valid, bad-next}
-use Rattle.listing.proofs.Listed.{Listed, listed_start, listed-length, passes-read, listed-passes, listed-change, listed-full, listed-refused, listed-done}
+use Rattle.listing.proofs.Listed.{Listed, listed_start, passes-read, listed-passes, listed-change, listed-full, listed-refused, listed-done}
 use Rattle.listing.proofs.list_on.Goals as goal
 use Rattle.listing.proofs.list_on.Goals.{After-cur-1, After-step_fast}
 
@@ -29,12 +29,6 @@ returns-then-not-placed c = record { answer = rw c.answer.ensures (listed-refuse
 pub loop-d-init : goal.loop-d-init
 loop-d-init c = (good-valid _ _ (sym c.placed.ensures ∙ c.if-not-placed.false), listed_start _ _ _ _ _)
 
-pub fast_run-ran-requires : goal.fast_run-ran-requires
-fast_run-ran-requires c = c.loop-d.invariant.0
-
-pub step_fast-requires : goal.step_fast-requires
-step_fast-requires c = c.fast_run-ran.ensures.valid
-
 pub loop-d-smaller-in-Time : goal.loop-d-smaller-in-Time
 loop-d-smaller-in-Time c =
     omega (
@@ -48,14 +42,8 @@ loop-d-preserved-in-Time c =
     let p = passes-read _ _ _ _ _ _ (read (goal.at.loop-d-preserved-in-Time c).After-step_fast _ c.in-Time.is) refl in
     (p.valid, listed-passes _ _ _ _ _ _ _ _ _ (ran (goal.at.loop-d-preserved-in-Time c).After-cur-1) _ _ p)
 
-pub shape_of-rows-then-cap-n : goal.shape_of-rows-then-cap-n
-shape_of-rows-then-cap-n c = listed-length _ _ _ _ _ _ _ _ _ (ran (goal.at.shape_of-rows-then-cap-n c).After-cur-1)
-
 pub returns-then-cap-n : goal.returns-then-cap-n
 returns-then-cap-n c = record { answer = rw c.full.ensures (listed-full _ _ _ _ _ _ _ _ _ (ran (goal.at.returns-then-cap-n c).After-cur-1) _ _ _ (read (goal.at.returns-then-cap-n c).After-step_fast _ c.in-Change.is) c.if-cap-n.true).0; table = (listed-full _ _ _ _ _ _ _ _ _ (ran (goal.at.returns-then-cap-n c).After-cur-1) _ _ _ (read (goal.at.returns-then-cap-n c).After-step_fast _ c.in-Change.is) c.if-cap-n.true).1 }
-
-pub put_change-requires : goal.put_change-requires
-put_change-requires c = omega (arith, listed-length _ _ _ _ _ _ _ _ _ (ran (goal.at.put_change-requires c).After-cur-1), c.if-cap-n.false)
 
 pub loop-d-smaller-in-Change : goal.loop-d-smaller-in-Change
 loop-d-smaller-in-Change c =
@@ -86,14 +74,8 @@ loop-d-preserved c =
     let p = passes-read _ _ _ _ _ _ (read (goal.at.loop-d-preserved c).After-step_fast _ c.in-Other.is) refl in
     (p.valid, listed-passes _ _ _ _ _ _ _ _ _ (ran (goal.at.loop-d-preserved c).After-cur-1) _ _ p)
 
-pub shape_of-rows-in-Refused : goal.shape_of-rows-in-Refused
-shape_of-rows-in-Refused c = listed-length _ _ _ _ _ _ _ _ _ (ran (goal.at.shape_of-rows-in-Refused c).After-cur-1)
-
 pub returns-in-Refused : goal.returns-in-Refused
 returns-in-Refused c = record { answer = rw c.answer-in-Refused.ensures (listed-refused _ _ _ _ _ _ _ _ _ (ran (goal.at.returns-in-Refused c).After-cur-1) _ _ _ (read (goal.at.returns-in-Refused c).After-step_fast _ c.in-Refused.is)).0; table = (listed-refused _ _ _ _ _ _ _ _ _ (ran (goal.at.returns-in-Refused c).After-cur-1) _ _ _ (read (goal.at.returns-in-Refused c).After-step_fast _ c.in-Refused.is)).1 }
-
-pub shape_of-rows-in-Done : goal.shape_of-rows-in-Done
-shape_of-rows-in-Done c = listed-length _ _ _ _ _ _ _ _ _ (ran (goal.at.shape_of-rows-in-Done c).After-cur-1)
 
 pub returns-in-Done : goal.returns-in-Done
 returns-in-Done c = record { answer = rw c.answer-in-Done.ensures (listed-done _ _ _ _ _ _ _ _ _ (ran (goal.at.returns-in-Done c).After-cur-1) _ (read (goal.at.returns-in-Done c).After-step_fast _ c.in-Done.is)).0; table = (listed-done _ _ _ _ _ _ _ _ _ (ran (goal.at.returns-in-Done c).After-cur-1) _ (read (goal.at.returns-in-Done c).After-step_fast _ c.in-Done.is)).1 }

@@ -2,11 +2,5 @@
 use mathlib.Core.Path.{refl, sym, ◌∙◌}
 use Rattle.listing.proofs.so_far.Goals as goal
 
-pub returns-then-input-last : goal.returns-then-input-last
-returns-then-input-last c = (refl, λ u h. sym (h.0 c.if-input-last.true))
-
-pub time_at-requires : goal.time_at-requires
-time_at-requires c = (c.requires.0, c.requires.1 c.if-input-last.false)
-
-pub returns : goal.returns
-returns c = (refl, λ u h. let x = h.1 c.if-input-last.false in c.time_at.ensures x.0 x.1 x.2 ∙ sym x.3)
+pub returns-then-last-input : goal.returns-then-last-input
+returns-then-last-input c = (refl, λ u h. let x = h.1 c.if-last-input.true in c.time_at-since.ensures x.0 x.1 x.2 ∙ sym x.3)

@@ -20,9 +20,3 @@ parse_vector-requires c =
       input_len_bound = rw (take_rest c.args.input.now 0) c.requires.input_len_bound;
       at_value = rw (take_rest c.args.input.now 0) (vector-kind _ c.in-98.is);
     }
-
-pub returns-in-35 : goal.returns-in-35
-returns-in-35 c = c.parse_timestamp.ensures.0
-
-pub returns-in-98 : goal.returns-in-98
-returns-in-98 c = rw (take_rest c.args.input.now 0) at c.parse_vector.ensures

@@ -10,7 +10,7 @@ use Rattle.parser.proofs.All.{less-left}
 use Rattle.token.specs.declared.Cursor.{Cursor}
 use Rattle.records.specs.Read.{as_slow, Ran}
 use Rattle.records.specs.declared.Step.{Step}
-use Rattle.records.proofs.Taken.{Stepped, told, ran-start, ran-length, ran-join, ran-read, ran-full, ran-last, read-bad}
+use Rattle.records.proofs.Taken.{Stepped, told, ran-start, ran-join, ran-read, ran-full, ran-last, read-bad}
 use Rattle.records.proofs.read.Goals as goal
 use Rattle.records.proofs.read.Goals.{After-fast_run-ran, After-step_fast, Else-not-placed, In-Hit}
 
@@ -31,9 +31,6 @@ Told c q = let s = c.args.input.now in let d = c.fast_run-ran.result.cursor in S
 
 step : (c : After-step_fast) (q : Step) → c.step_fast.result ≡ q → Told c q
 step c q e = told _ _ _ _ q c.step_fast.ensures.0 e
-
-inside : (c : In-Hit) → c.in-Hit.end < length c.args.input.now
-inside c = rw c.in-Hit.is at c.step_fast.ensures.1
 
 -- a command was read: less is left, and one more is made
 less : (c : After-step_fast) (d : Cursor) → Told c (Step.Read d) →
@@ -57,12 +54,6 @@ returns-then-not-placed c =
 pub loop-n-init : goal.loop-n-init
 loop-n-init c = ran-start _ _ _ _ (good-valid _ _ (good (goal.at.loop-n-init c).Else-not-placed)) (omega arith)
 
-pub fast_run-ran-requires : goal.fast_run-ran-requires
-fast_run-ran-requires c = let l = c.loop-n.invariant in (l.valid, omega (arith, l.room, ran-length _ _ _ _ _ _ _ l))
-
-pub shape_of-records-then-cap-n : goal.shape_of-records-then-cap-n
-shape_of-records-then-cap-n c = ran-length _ _ _ _ _ _ _ (come (goal.at.shape_of-records-then-cap-n c).After-fast_run-ran)
-
 pub returns-then-cap-n : goal.returns-then-cap-n
 returns-then-cap-n c =
     let l = come (goal.at.returns-then-cap-n c).After-fast_run-ran in
@@ -71,18 +62,6 @@ returns-then-cap-n c =
       answer = rw c.answer-then-cap-n.ensures (ran-full _ _ _ _ _ _ l g (omega (arith, c.if-cap-n.true))).0;
       table = (ran-full _ _ _ _ _ _ l g (omega (arith, c.if-cap-n.true))).1;
     }
-
-pub step_fast-requires : goal.step_fast-requires
-step_fast-requires c =
-    let l = come (goal.at.step_fast-requires c).After-fast_run-ran in
-    record { valid = l.valid; n_in_bounds = omega (arith, ran-length _ _ _ _ _ _ _ l, c.if-cap-n.false) }
-
-pub bounds-input-end : goal.bounds-input-end
-bounds-input-end c = inside (goal.at.bounds-input-end c).In-Hit
-
-pub word_read-cur-requires : goal.word_read-cur-requires
-word_read-cur-requires c =
-    record { end_lt_limit = omega (arith, inside (goal.at.word_read-cur-requires c).In-Hit, c.fast_run-ran.ensures.valid); line_bound = omega (arith, inside (goal.at.word_read-cur-requires c).In-Hit, c.fast_run-ran.ensures.valid) }
 
 pub loop-n-smaller-in-Hit : goal.loop-n-smaller-in-Hit
 loop-n-smaller-in-Hit c =
@@ -97,10 +76,6 @@ loop-n-smaller c = less (goal.at.loop-n-smaller c).After-step_fast _ (step (goal
 
 pub loop-n-preserved : goal.loop-n-preserved
 loop-n-preserved c = more (goal.at.loop-n-preserved c).After-step_fast _ (step (goal.at.loop-n-preserved c).After-step_fast _ c.in-Read.is)
-
-pub shape_of-records-in-Ends : goal.shape_of-records-in-Ends
-shape_of-records-in-Ends c =
-    c.step_fast.auto.records ∙ ran-length _ _ _ _ _ _ _ (come (goal.at.shape_of-records-in-Ends c).After-fast_run-ran)
 
 pub returns-in-Ends : goal.returns-in-Ends
 returns-in-Ends c =

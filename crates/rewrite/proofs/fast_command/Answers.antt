@@ -19,6 +19,3 @@ parse_vector-requires c = record {
   input_len_bound = rw (take_rest c.args.input.now 0) c.requires.input_len_bound;
   at_value = rw (take_rest c.args.input.now 0) (vector-kind _ c.in-98.is);
 }
-
-pub returns-in-98 : goal.returns-in-98
-returns-in-98 c = rw (take_rest c.args.input.now 0) at c.parse_vector.ensures

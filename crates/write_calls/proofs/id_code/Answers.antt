@@ -7,4 +7,4 @@ pub returns-in-Ok : goal.returns-in-Ok
 returns-in-Ok c = rw (← c.from_str.ensures, c.in-Ok.is) (record { status = refl; code = refl })
 
 pub returns-in-Err : goal.returns-in-Err
-returns-in-Err c = rw (← c.from_str.ensures, c.in-Err.is) (record { status = c.number.ensures ∙ ap number_of c.from_id.ensures; code = refl })
+returns-in-Err c = rw (← c.from_str.ensures, c.in-Err.is) (record { status = c.number.ensures ∙ ap number_of c.from.ensures; code = refl })

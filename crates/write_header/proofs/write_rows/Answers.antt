@@ -10,11 +10,6 @@ write_scope-requires c =
     let p = c.requires in
     (omega arith, (good-parts a.rows.now a.n p.2).0, omega arith, p.0, p.1)
 
-pub write_one-requires : goal.write_one-requires
-write_one-requires c =
-    let x = rw c.in-Ok.is at c.write_scope.ensures in
-    (x.2, c.requires.1.short)
-
 pub returns-in-Ok-write_one : goal.returns-in-Ok-write_one
 returns-in-Ok-write_one c =
     let a = c.args in

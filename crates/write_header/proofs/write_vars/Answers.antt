@@ -1,38 +1,37 @@
 -- Goals of `write_header::write_vars` that the search leaves.
-use mathlib.Core.Path.{refl, sym, ◌∙◌}
+use mathlib.Core.Path.{◌≡◌, refl, sym, ◌∙◌}
 use native.Mathlib.Omega.{arith}
 use Rattle.write_header.proofs.Items.{var-of, moved, one_more, no_more}
 use Rattle.write_header.proofs.Places.{var-placed}
 use Rattle.write_header.proofs.write_vars.Goals as goal
 
 pub loop-i-init : goal.loop-i-init
-loop-i-init c = let p = c.requires in (omega arith, omega (arith, p.0), p.2, refl, λ levels st h k g. (g, refl))
+loop-i-init c = let p = c.requires in (p.2, refl, λ levels st h k g. (g, refl))
+
+pub returns-then-not-is_var_of : goal.returns-then-not-is_var_of
+returns-then-not-is_var_of c =
+    let l = c.loop-i in
+    let h = moved _ _ _ c.parent_at-me.ensures c.requires.4 l.auto.i (sym c.is_var_of.ensures ∙ c.if-not-is_var_of.true) in
+    λ levels. (h, omega (arith, l.auto.i-end, c.requires.0), l.invariant.0, l.invariant.2 levels)
 
 pub write_var-requires : goal.write_var-requires
 write_var-requires c =
     let p = c.requires in
-    let x = var-of _ _ _ (sym c.is_var_of.ensures ∙ c.if-is_var_of.true) in (
-      c.loop-i.invariant.2,
+    let x = var-of _ _ _ (sym c.is_var_of.ensures ∙ c.if-not-is_var_of.false) in (
+      c.loop-i.invariant.0,
       var-placed _ _ _ _ p.3 c.loop-i-test.true c.var_at.ensures x.0,
     )
-
-pub loop-i-smaller : goal.loop-i-smaller
-loop-i-smaller c =
-    let x = rw c.in-Ok.is at c.write_var.ensures in
-    omega (arith, x.0, c.loop-i-test.true)
 
 pub loop-i-preserved : goal.loop-i-preserved
 loop-i-preserved c =
     let a = c.args in
     let l = c.loop-i in
     let x = rw c.in-Ok.is at c.write_var.ensures in (
-      omega (arith, x.0, l.invariant.0),
-      omega (arith, x.0, c.loop-i-test.true),
       x.1,
-      c.write_var.auto.out ∙ l.invariant.3,
-      one_more a.src.now a.rows.now a.n a.from a.out.now a.at a.w l.i l.out l.place l.v
+      c.write_var.auto.out ∙ l.invariant.1,
+      rw x.0 at (one_more a.src.now a.rows.now a.n a.from a.out.now a.at a.w l.i l.out l.place l.v
           c.loop-i-test.true c.var_at.ensures
-          c.parent_at-me.ensures (sym c.is_var_of.ensures ∙ c.if-is_var_of.true) l.invariant.4 _ _ _ _ x,
+          c.parent_at-me.ensures (sym c.is_var_of.ensures ∙ c.if-not-is_var_of.false) l.invariant.2 _ _ _ _ x),
     )
 
 pub returns-in-Err : goal.returns-in-Err
@@ -41,16 +40,11 @@ returns-in-Err c =
     let l = c.loop-i in
     no_more a.src.now a.rows.now a.n a.from a.out.now a.at a.w l.i l.out l.place l.v
     c.loop-i-test.true c.var_at.ensures
-    c.parent_at-me.ensures (sym c.is_var_of.ensures ∙ c.if-is_var_of.true) l.invariant.4 _ _ _ _
+    c.parent_at-me.ensures (sym c.is_var_of.ensures ∙ c.if-not-is_var_of.false) l.invariant.2 _ _ _ _
     (rw c.in-Err.is at c.write_var.ensures)
 
-pub returns-else-is_var_of : goal.returns-else-is_var_of
-returns-else-is_var_of c =
+pub returns : goal.returns
+returns c =
     let l = c.loop-i in
-    let h = moved _ _ _ c.parent_at-me.ensures c.requires.4 l.invariant.0 (sym c.is_var_of.ensures ∙ c.if-is_var_of.false) in
-    λ levels. (h, l.invariant.1, l.invariant.2, l.invariant.4 levels)
-
-pub returns-after-loop-i : goal.returns-after-loop-i
-returns-after-loop-i c =
-    let l = c.loop-i in
-    λ levels. (omega (arith, c.requires.0, c.loop-i-test.false), l.invariant.1, l.invariant.2, l.invariant.4 levels)
+    let all : l.i ≡ c.args.n = omega (arith, l.auto.i-end, c.loop-i-test.false, c.requires.0) in
+    λ levels. (c.requires.0, omega arith, l.invariant.0, rw all at (l.invariant.2 levels))

@@ -1,13 +1,6 @@
 -- Goals of `write_header::write_version` that the search leaves.
-use mathlib.Core.Path.{refl}
 use Rattle.write_header.proofs.Places.{placed}
 use Rattle.write_header.proofs.write_version.Goals as goal
 
 pub write_one-requires : goal.write_one-requires
 write_one-requires c = (c.requires.0, placed _ _ c.requires.1 (rw c.in-Some.is at c.requires.2))
-
-pub returns-in-None : goal.returns-in-None
-returns-in-None c = rw c.in-None.is (refl, c.requires.0, λ more. refl)
-
-pub returns-in-Some : goal.returns-in-Some
-returns-in-Some c = rw c.in-Some.is c.write_one.ensures

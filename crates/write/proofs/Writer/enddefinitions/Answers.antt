@@ -1,16 +1,12 @@
 -- Goals of `write::Writer::enddefinitions` that the search leaves.
 use mathlib.Core.Path.{refl}
 use native.Mathlib.Omega.{arith}
-use borrow.Author.Tests.{eq-eqb, ne_eqb}
+use borrow.Author.Tests.{eq-eqb}
 use Rattle.write.specs.Layout.{layout, state_after}
 use Rattle.write.specs.Call.{call}
 use Rattle.text.proofs.Limit.{none-long}
-use Rattle.write.proofs.Outcomes.{not-writable, laid_out}
+use Rattle.write.proofs.Outcomes.{laid_out}
 use Rattle.write.proofs.Writer.enddefinitions.Goals as goal
-
-pub returns-then-self-gt0 : goal.returns-then-self-gt0
-unfolding call
-returns-then-self-gt0 c = not-writable _ _ _ _ _ none-long (ne_eqb c.args.self.depth 0 (λ e. omega arith))
 
 pub returns : goal.returns
 unfolding call state_after layout

@@ -1,8 +1,0 @@
--- Goals of `rewrite::wrote` that the search leaves.
-use Rattle.rewrite.proofs.wrote.Goals as goal
-
-pub returns-in-Ok : goal.returns-in-Ok
-returns-in-Ok c = rw c.in-Ok.is
-
-pub returns-in-Err : goal.returns-in-Err
-returns-in-Err c = rw c.in-Err.is
