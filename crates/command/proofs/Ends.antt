@@ -1,4 +1,6 @@
 -- Laws of the search for the closing mark. Assumes nothing.
+use Rattle.std.specs.Option.{MatchOption}
+use Rattle.std.specs.Prelude.{Option}
 use Rattle.std.specs.Prelude.{Some, None}
 use Prim.Native.Nat.{ℕ, zero, suc, ◌+◌, ◌-◌, ◌≤◌, ◌<◌}
 use mathlib.Core.Path.{◌≡◌, refl, sym, ap}
@@ -39,6 +41,12 @@ module _ (s : List ℕ) where
   pub end-first : (i : ℕ) → (0 ≤ i) × (i < length s) × (starts end_mark (drop i s) ≡ true) × NoneBefore s i → Some i ≡ first_end s
   unfolding first_end
   end-first i h = let r = first-held s i h.1 h.2 h.3 in rw (r.0, r.1)
+
+  pub end_found : (r : Option ℕ)
+      → MatchOption r (NoneBefore s (length s)) (λ i. (0 ≤ i) × (i < length s) × (starts end_mark (drop i s) ≡ true) × NoneBefore s i)
+      → r ≡ first_end s
+  end_found None h = end-none h
+  end_found (Some i) h = end-first i h
 
 -- ---- whether `$end` stands at i, by how many bytes are left, by its first byte and by the four
 pub end-short : (s : List ℕ) (i : ℕ) → length s - i < 4 → starts end_mark (drop i s) ≡ false

@@ -204,10 +204,7 @@ fn end_at(s: &[u8], i: usize) -> bool
 pub fn find_end(s: &[u8]) -> Option<usize>
     ensures { result ≡ first_end s.now }
 {
-    match (0..s.len()).find(|&i| end_at(s, i)) {
-        Some(i) => Some(i),
-        None => None,
-    }
+    (0..s.len()).find(|&i| end_at(s, i))
 }
 
 impl SimulationCommand {

@@ -159,14 +159,10 @@ fn close(first: u8, p: Option<usize>, out: &mut [u8]) -> Option<usize>
     requires { Inside p (length out.old) }
     ensures { (result ≡ closed_answer p) × (out.new ≡ closed_bytes first p out.old) }
 {
-    match p {
-        Some(n) => {
-            out[0] = first;
-            out[n + 1] = b'\n';
-            Some(n + 2)
-        }
-        None => None,
-    }
+    let n = p?;
+    out[0] = first;
+    out[n + 1] = b'\n';
+    Some(n + 2)
 }
 
 // A timestamp of eight digits, taken apart by halves: no digit waits for all those after it.
@@ -244,14 +240,10 @@ pub fn emit_vector(v: &[u8], id: IdCode, out: &mut [u8]) -> Option<usize>
     }
     let last = out.len() - 1;
     let at = v.len() + 2;
-    match id.put(&mut out[at..last]) {
-        Some(n) => {
-            put_values(out, v);
-            out[at + n] = b'\n';
-            Some(at + n + 1)
-        }
-        None => None,
-    }
+    let n = id.put(&mut out[at..last])?;
+    put_values(out, v);
+    out[at + n] = b'\n';
+    Some(at + n + 1)
 }
 
 // What stands before a vector's id.

@@ -8,13 +8,17 @@ use Rattle.command.specs.declared.Word.{Word}
 use Rattle.text.specs.Plain.{Plain as Printable}
 use Rattle.utf8.specs.Utf8.{lies, due_after, well_formed, valid_utf8}
 use Rattle.text.proofs.Blanks.{solid}
-use Rattle.text.proofs.Lists.{both, drop-step}
+use Rattle.text.proofs.Lists.{both, drop-step, one_more}
 use Rattle.utf8.proofs.WellFormed.{ascii-first, empty-valid, valid-append}
 use Rattle.token.specs.Read.{word}
 use Rattle.token.proofs.Reading.{word-of}
 use Rattle.token.proofs.Words.{word-front}
 use Rattle.parser_part.specs.FastWord.{Whole}
-use Rattle.fast_var.specs.FastVar.{Worded, Four, Names, Begins, Ends}
+use Rattle.fast_var.specs.FastVar.{Gap, Worded, Four, Names, Begins, Ends}
+
+pub gap_more : (s : List ℕ) (at i : ℕ) → Gap s at i → i < length s → get_or s i 0 ≡ 32 → Gap s at (i + 1)
+gap_more s at i g h e =
+    record { past = omega (arith, g.past); inside = omega arith; spaces = one_more (λ j. get_or s j 0 ≡ 32) at i (i + 1) refl g.spaces e }
 
 -- ---- the bytes w stand from `at` up to e; none is a blank, and they are UTF-8
 pub record Stands (s : List ℕ) (at e : ℕ) (w : List ℕ) : Type 0 where

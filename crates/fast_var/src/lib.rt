@@ -25,6 +25,7 @@ const REG: u32 = scope::VAR_TYPES[scope::REG].name[0] as u32
     + 16777216 * (b' ' as u32);
 
 // The definition that begins at `at`, after spaces.
+#[tactic(auto, using(crate::proofs::Definitions::hits))]
 pub fn parse_var(input: &[u8], at: usize) -> Option<(Var, usize)>
     requires at_in_bounds { at ≤ length input.now }
     requires input_len_bound { length input.now ≤ limit }
@@ -34,10 +35,8 @@ pub fn parse_var(input: &[u8], at: usize) -> Option<(Var, usize)>
     if !begins(input, first) {
         return None;
     }
-    match type_at(input, spaces_end(input, first + 5)) {
-        Some((k, end)) => sized(input, end + 1, k),
-        None => None,
-    }
+    let (k, end) = type_at(input, spaces_end(input, first + 5))?;
+    sized(input, end + 1, k)
 }
 
 // The two usual types are found without a search for the word's end.
@@ -53,10 +52,8 @@ fn type_at(input: &[u8], at: usize) -> Option<(VarType, usize)>
     if end <= at || at + 32 < end {
         return None;
     }
-    match VarType::from_str(&input[at..end]) {
-        Some(k) => Some((k, end)),
-        None => None,
-    }
+    let k = VarType::from_str(&input[at..end])?;
+    Some((k, end))
 }
 
 // The rest of a definition after its type and a space.
@@ -64,15 +61,11 @@ fn sized(input: &[u8], at: usize, k: VarType) -> Option<(Var, usize)>
     requires { (at ≤ length input.now) × (length input.now ≤ limit) }
     ensures { Goes input.now at (var_of (Some k)) result }
 {
-    match word::fast_number(input, spaces_end(input, at)) {
-        Some((n, end)) => {
-            if 4294967295 < n || input[end] != b' ' {
-                return None;
-            }
-            coded(input, end + 1, k, n as u32)
-        }
-        None => None,
+    let (n, end) = word::fast_number(input, spaces_end(input, at))?;
+    if 4294967295 < n || input[end] != b' ' {
+        return None;
     }
+    coded(input, end + 1, k, n as u32)
 }
 
 // The rest of a definition after its width.
@@ -80,15 +73,11 @@ fn coded(input: &[u8], at: usize, k: VarType, n: u32) -> Option<(Var, usize)>
     requires { (at ≤ length input.now) × (length input.now ≤ limit) }
     ensures { Goes input.now at (var_id k n) result }
 {
-    match word::fast_id(input, spaces_end(input, at)) {
-        Some((i, end)) => {
-            if input[end] != b' ' {
-                return None;
-            }
-            named(input, end + 1, k, n, IdCode(i))
-        }
-        None => None,
+    let (i, end) = word::fast_id(input, spaces_end(input, at))?;
+    if input[end] != b' ' {
+        return None;
     }
+    named(input, end + 1, k, n, IdCode(i))
 }
 
 // The rest of a definition after its id.
@@ -117,16 +106,12 @@ fn indexed(input: &[u8], at: usize, k: VarType, n: u32, i: IdCode, t: Text) -> O
     requires { (at ≤ length input.now) × (length input.now ≤ limit) }
     ensures { Goes input.now at (var_end (variable_of k n i t ReferenceIndex.None)) result }
 {
-    match index_at(input, at) {
-        Some((x, end)) => {
-            let last = spaces_end(input, end + 1);
-            if ends(input, last) {
-                return Some((made(k, n, i, t, x), last + 4));
-            }
-            None
-        }
-        None => None,
+    let (x, end) = index_at(input, at)?;
+    let last = spaces_end(input, end + 1);
+    if !ends(input, last) {
+        return None;
     }
+    Some((made(k, n, i, t, x), last + 4))
 }
 
 fn made(var_type: VarType, size: u32, code: IdCode, reference: Text, index: ReferenceIndex) -> Var
@@ -149,18 +134,14 @@ fn index_at(input: &[u8], at: usize) -> Option<(ReferenceIndex, usize)>
     if input.len() <= at || input[at] != b'[' {
         return None;
     }
-    match digits(input, at + 1) {
-        Some((a, end)) => {
-            if input[end] == b':' {
-                return range(input, at, end, a);
-            }
-            if closed(input, end) {
-                return Some((ReferenceIndex::BitSelect(a as i32), end + 1));
-            }
-            None
-        }
-        None => None,
+    let (a, end) = digits(input, at + 1)?;
+    if input[end] == b':' {
+        return range(input, at, end, a);
     }
+    if !closed(input, end) {
+        return None;
+    }
+    Some((ReferenceIndex::BitSelect(a as i32), end + 1))
 }
 
 // The index that begins at `at` with the number a, and a colon at `colon`.
@@ -168,15 +149,11 @@ fn range(input: &[u8], at: usize, colon: usize, a: u64) -> Option<(ReferenceInde
     requires { (colon < length input.now) × (length input.now ≤ limit) × RangeAt input.now at colon a }
     ensures { IndexAt input.now at result }
 {
-    match digits(input, colon + 1) {
-        Some((b, end)) => {
-            if closed(input, end) {
-                return Some((ReferenceIndex::Range(a as i32, b as i32), end + 1));
-            }
-            None
-        }
-        None => None,
+    let (b, end) = digits(input, colon + 1)?;
+    if !closed(input, end) {
+        return None;
     }
+    Some((ReferenceIndex::Range(a as i32, b as i32), end + 1))
 }
 
 // Whether `]` and a space stand at `at`.
@@ -206,14 +183,19 @@ fn digits(input: &[u8], at: usize) -> Option<(u64, usize)>
     None
 }
 
-// The place of the first byte from `at` on that is no space.
+// The place of the first byte from `at` on that is no space. Most often it is `at`: counted by hand, which costs fewer steps than `find`.
 fn spaces_end(input: &[u8], at: usize) -> usize
     requires { at ≤ length input.now }
     ensures { Gap input.now at result }
 {
-    (at..input.len())
-        .find(|&i| input[i] != b' ')
-        .unwrap_or(input.len())
+    let mut i = at;
+    while i < input.len() {
+        if input[i] != b' ' {
+            return i;
+        }
+        i += 1;
+    }
+    i
 }
 
 // Where the word of printable ASCII ends that starts at `at`, and a space stands; `at` where there is none such. The end of a word of

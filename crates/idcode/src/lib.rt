@@ -48,10 +48,8 @@ impl IdCode {
     pub fn next(self) -> Option<IdCode>
         ensures { result ≡ following self.0 }
     {
-        match self.0.checked_add(1) {
-            Some(code) => Some(IdCode(code)),
-            None => None,
-        }
+        let code = self.0.checked_add(1)?;
+        Some(IdCode(code))
     }
 
     // The text of a code. The largest u64 has one too, which `from_str` refuses as too long. Here and below the number that is left

@@ -20,10 +20,8 @@ use text::Spelled;
 pub fn parse_u32(s: &[u8]) -> Option<u32>
     ensures { result ≡ narrow (parse_below (2 ^ 32) s.now) }
 {
-    match parse_most(s, u32::MAX as u64) {
-        Some(v) => Some(v as u32),
-        None => None,
-    }
+    let v = parse_most(s, u32::MAX as u64)?;
+    Some(v as u32)
 }
 
 pub fn parse_u64(s: &[u8]) -> Option<u64>
@@ -74,20 +72,16 @@ fn from_zero(n: Option<u64>) -> Option<i32>
     requires { Below (2 ^ 31) n }
     ensures { result ≡ plain n }
 {
-    match n {
-        Some(v) => Some(v as i32),
-        None => None,
-    }
+    let v = n?;
+    Some(v as i32)
 }
 
 fn below_zero(n: Option<u64>) -> Option<i32>
     requires { Below (2 ^ 31 + 1) n }
     ensures { result ≡ negated n }
 {
-    match n {
-        Some(v) => Some((0 - (v as i64)) as i32),
-        None => None,
-    }
+    let v = n?;
+    Some((0 - (v as i64)) as i32)
 }
 
 // How many digits a number has: the number drives the loop, and there is no list to go over.

@@ -307,17 +307,11 @@ impl ReferenceIndex {
     {
         let colon = find_colon(s);
         if colon == s.len() {
-            return match number_in(s) {
-                Some(n) => Some(ReferenceIndex::BitSelect(n)),
-                None => None,
-            };
+            let n = number_in(s)?;
+            return Some(ReferenceIndex::BitSelect(n));
         }
-        let Some(msb) = number_in(&s[..colon]) else {
-            return None;
-        };
-        let Some(lsb) = number_in(&s[colon + 1..]) else {
-            return None;
-        };
+        let msb = number_in(&s[..colon])?;
+        let lsb = number_in(&s[colon + 1..])?;
         Some(ReferenceIndex::Range(msb, lsb))
     }
 

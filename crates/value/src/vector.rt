@@ -40,11 +40,7 @@ pub fn len(s: &[u8]) -> usize
 pub fn get(s: &[u8], i: usize) -> Option<Value>
     ensures { result ≡ bit_at s.now i }
 {
-    let Some(&b) = s.get(i) else { return None };
-    match Value::parse(b) {
-        Some(x) => Some(x),
-        None => None,
-    }
+    Value::parse(*s.get(i)?)
 }
 
 // A value's byte in lower case.

@@ -46,10 +46,8 @@ pub fn header(
     if !tree::good_table(rows, count) {
         return Err((Refusal::BadTable, 0, w));
     }
-    match write_kept(w, src, h, out) {
-        Ok((_, at, v)) => write_rows(v, src, rows, count, out, at),
-        Err((e, at, v)) => Err((e, at, v)),
-    }
+    let (_, at, v) = write_kept(w, src, h, out)?;
+    write_rows(v, src, rows, count, out, at)
 }
 
 // One command after the bytes that are written; `row` is the row to go on with.
@@ -68,13 +66,9 @@ fn write_kept(w: Writer, src: &[u8], h: Header, out: &mut [u8]) -> Wrote
     requires { (too_long src.now ≡ false) × (kept_outside src.now h.date ≡ false) × (kept_outside src.now h.version ≡ false) }
     ensures { Writes out.old 0 w (kept_meanings src.now h) 0 result out.new }
 {
-    match write_date(w, src, h.date, out) {
-        Ok((_, at, v)) => match write_version(v, src, h.version, out, at) {
-            Ok((_, past, u)) => write_timescale(u, src, h.timescale, out, past),
-            Err((e, past, u)) => Err((e, past, u)),
-        },
-        Err((e, at, v)) => Err((e, at, v)),
-    }
+    let (_, at, v) = write_date(w, src, h.date, out)?;
+    let (_, past, u) = write_version(v, src, h.version, out, at)?;
+    write_timescale(u, src, h.timescale, out, past)
 }
 
 fn write_date(w: Writer, src: &[u8], date: Option<Text>, out: &mut [u8]) -> Wrote
@@ -125,13 +119,9 @@ fn write_rows(
     requires { (at ≤ length out.old) × Inside src.now rows.now n × (is_good_table (rows_of rows.now n) ≡ true) }
     ensures { Does result out.new (pour out.old at w (row_meanings src.now 0 [] (rows_of rows.now n))) }
 {
-    match write_scope(w, src, rows, n, 0, out, at, rows::TOP, rows::LEVELS) {
-        Ok((_, past, v)) => match write_one(v, src, Command::Enddefinitions, 0, out, past) {
-            Ok((_, end, u)) => Ok((end, u)),
-            Err((e, end, u)) => Err((e, end, u)),
-        },
-        Err((e, past, v)) => Err((e, past, v)),
-    }
+    let (_, past, v) = write_scope(w, src, rows, n, 0, out, at, rows::TOP, rows::LEVELS)?;
+    let (_, end, u) = write_one(v, src, Command::Enddefinitions, 0, out, past)?;
+    Ok((end, u))
 }
 
 // The items of the scope `me` from row `from` on. A `while`, since the row moves by what an item took.
@@ -157,14 +147,10 @@ fn write_scope(
         if tree::parent_at(rows, i) != me {
             return Ok((i, place, v));
         }
-        match write_item(v, src, rows, n, i, out, place, levels) {
-            Ok((next, past, u)) => {
-                i = next;
-                place = past;
-                v = u;
-            }
-            Err((e, past, u)) => return Err((e, past, u)),
-        }
+        let (next, past, u) = write_item(v, src, rows, n, i, out, place, levels)?;
+        i = next;
+        place = past;
+        v = u;
     }
     Ok((i, place, v))
 }
@@ -189,16 +175,12 @@ fn write_item(
             if levels == 0 {
                 return Err((Refusal::BadTable, at, w));
             }
-            match write_one(w, src, Command::ScopeDef(k, t), i + 1, out, at) {
-                Ok((next, past, v)) => {
-                    close(
-                        write_scope(v, src, rows, n, next, out, past, i as u64, levels - 1),
-                        src,
-                        out,
-                    )
-                }
-                Err((e, past, v)) => Err((e, past, v)),
-            }
+            let (next, past, v) = write_one(w, src, Command::ScopeDef(k, t), i + 1, out, at)?;
+            close(
+                write_scope(v, src, rows, n, next, out, past, i as u64, levels - 1),
+                src,
+                out,
+            )
         }
         Row::Var(_, _) => write_vars(w, src, rows, n, i, out, at),
         Row::Comment(_, t) => write_one(w, src, Command::Comment(t), i + 1, out, at),
@@ -226,13 +208,9 @@ fn write_vars(
         if !tree::is_var_of(rows, i, me) {
             return Ok((i, place, v));
         }
-        match write_var(v, src, rows::peek::var_at(rows, i), i + 1, out, place) {
-            Ok((_, past, u)) => {
-                place = past;
-                v = u;
-            }
-            Err((e, past, u)) => return Err((e, past, u)),
-        }
+        let (_, past, u) = write_var(v, src, rows::peek::var_at(rows, i), i + 1, out, place)?;
+        place = past;
+        v = u;
     }
     Ok((n, place, v))
 }
@@ -252,8 +230,6 @@ fn close(items: Wrote, src: &[u8], out: &mut [u8]) -> Wrote
     requires { Fits items (length out.old) × (too_long src.now ≡ false) }
     ensures { Closes items out.old result out.new }
 {
-    match items {
-        Ok((next, at, w)) => write_one(w, src, Command::Upscope, next, out, at),
-        Err((e, at, w)) => Err((e, at, w)),
-    }
+    let (next, at, w) = items?;
+    write_one(w, src, Command::Upscope, next, out, at)
 }

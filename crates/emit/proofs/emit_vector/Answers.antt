@@ -4,7 +4,7 @@ use Prim.Native.Nat.{ℕ, ◌+◌, ◌≤◌}
 use mathlib.Core.Path.{◌≡◌, refl, ap, ◌∙◌}
 use mathlib.Core.List.{List, [], ◌∷◌, ◌++◌, map, append_assoc}
 use native.Mathlib.Omega.{arith}
-use lib.ListN.{length, set, length-append, length-map, length-set}
+use lib.ListN.{length, set, length-append, length-map}
 use Rattle.idcode.specs.Id.{id_text}
 use Rattle.text.specs.Bytes.{bytes}
 use Rattle.value.specs.Values.{lower}
@@ -39,30 +39,28 @@ module _ (t v o : List ℕ) (h : length v + 3 ≤ length o) {x : Option ℕ} {ys
       (y.0, ap length l ∙ stored-length _ 0 (values v) (omega (arith, y.1, size v)) ∙ y.1)
 
 pub overflow_add-out : goal.overflow_add-out
-overflow_add-out c = omega (arith, room (id_text c.args.id.0) c.args.v.now c.args.out.now (omega arith) c.put.ensures c.in-Some.n c.in-Some.is c.put_values.ensures)
+overflow_add-out c = omega (arith, room (id_text c.args.id.0) c.args.v.now c.args.out.now (omega arith) c.put.ensures c.in_ok-n.n c.in_ok-n.was c.put_values.ensures)
 
 pub bounds-out-at : goal.bounds-out-at
-bounds-out-at c = omega (arith, room (id_text c.args.id.0) c.args.v.now c.args.out.now (omega arith) c.put.ensures c.in-Some.n c.in-Some.is c.put_values.ensures)
+bounds-out-at c = omega (arith, room (id_text c.args.id.0) c.args.v.now c.args.out.now (omega arith) c.put.ensures c.in_ok-n.n c.in_ok-n.was c.put_values.ensures)
 
-pub shape_of-out-in-Some : goal.shape_of-out-in-Some
-shape_of-out-in-Some c = simp length-set (room (id_text c.args.id.0) c.args.v.now c.args.out.now (omega arith) c.put.ensures c.in-Some.n c.in-Some.is c.put_values.ensures).1
-
-pub returns-in-Some : goal.returns-in-Some
-returns-in-Some c =
+pub returns : goal.returns
+returns c =
     let x = c.args in
-    let m : ℕ = length x.v.now + 2 + c.in-Some.n in
+    let m : ℕ = length x.v.now + 2 + c.in_ok-n.n in
     rw (append_assoc (map lower x.v.now) (bytes " ") (id_text x.id.0 ++ bytes "\n")) at
-    (framed (values x.v.now) (id_text x.id.0) x.out.now _ (size x.v.now) (omega arith) c.put.ensures c.in-Some.n m c.in-Some.is refl
+    (framed (values x.v.now) (id_text x.id.0) x.out.now _ (size x.v.now) (omega arith) c.put.ensures c.in_ok-n.n m c.in_ok-n.was refl
     (ap (λ (l : List ℕ). set l m 10) c.put_values.ensures))
 
-pub returns-in-None : goal.returns-in-None
-returns-in-None c =
+pub returns-in_err-n : goal.returns-in_err-n
+returns-in_err-n c =
     let x = c.args in
-    rw (append_assoc (map lower x.v.now) (bytes " ") (id_text x.id.0 ++ bytes "\n")) at
-    (unframed (values x.v.now) (id_text x.id.0) x.out.now _ (size x.v.now) (omega arith) c.put.ensures c.in-None.is refl)
+    let none = rw (append_assoc (map lower x.v.now) (bytes " ") (id_text x.id.0 ++ bytes "\n")) at
+    (unframed (values x.v.now) (id_text x.id.0) x.out.now _ (size x.v.now) (omega arith) c.put.ensures c.in_err-n.was refl) in
+    (c.from_residual.ensures ∙ none.0, none.1)
 
 pub overflow_add-result : goal.overflow_add-result
-overflow_add-result c = omega (arith, room (id_text c.args.id.0) c.args.v.now c.args.out.now (omega arith) c.put.ensures c.in-Some.n c.in-Some.is c.put_values.ensures)
+overflow_add-result c = omega (arith, room (id_text c.args.id.0) c.args.v.now c.args.out.now (omega arith) c.put.ensures c.in_ok-n.n c.in_ok-n.was c.put_values.ensures)
 
-pub overflow_add-result-in-Some : goal.overflow_add-result-in-Some
-overflow_add-result-in-Some c = omega (arith, room (id_text c.args.id.0) c.args.v.now c.args.out.now (omega arith) c.put.ensures c.in-Some.n c.in-Some.is c.put_values.ensures)
+pub overflow_add-result-2 : goal.overflow_add-result-2
+overflow_add-result-2 c = omega (arith, room (id_text c.args.id.0) c.args.v.now c.args.out.now (omega arith) c.put.ensures c.in_ok-n.n c.in_ok-n.was c.put_values.ensures)

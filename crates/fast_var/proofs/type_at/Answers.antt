@@ -24,8 +24,8 @@ told c p q =
 pub returns-then-is_usual : goal.returns-then-is_usual
 returns-then-is_usual c = told (goal.at.returns-then-is_usual c).Then-is_usual c.usual_type.ensures c.usual_end.ensures
 
-pub returns-in-Some : goal.returns-in-Some
-returns-in-Some c =
+pub returns : goal.returns
+returns c =
     let w = c.word_end-end.ensures c.if-end-at.false in
-    let parsed = sym c.from_str.ensures ∙ c.in-Some.is in
+    let parsed = sym c.from_str.ensures ∙ c.in_ok-k.was in
     (w, omega (arith, ltb-false), ap parse_var_type (sym (word_bytes _ _ _ w)) ∙ parsed)

@@ -6,5 +6,5 @@ use Rattle.number.proofs.parse_u32.Goals as goal
 
 pub overflow_cast-result : goal.overflow_cast-result
 overflow_cast-result c =
-    let h = accepted _ _ _ (sym c.parse_most.ensures ∙ c.in-Some.is) in
+    let h = accepted _ _ _ (sym c.parse_most.ensures ∙ c.in_ok-v.was) in
     record { fits = omega arith }

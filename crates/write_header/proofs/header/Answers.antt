@@ -1,6 +1,7 @@
 -- Goals of `write_header::header` that the search leaves.
 use mathlib.Core.Path.{sym, ◌∙◌}
 use Rattle.rows.specs.Rows.{rows_of}
+use Rattle.std.proofs.lemmas.Result.{err_from_is_err_and}
 use Rattle.write_header.specs.Meanings.{row_meanings}
 use Rattle.write_header.specs.Pour.{stop}
 use mathlib.Core.List.{[]}
@@ -25,19 +26,21 @@ pub write_rows-requires : goal.write_rows-requires
 write_rows-requires c =
     let a = c.args in
     let x = inside a.src.now a.h a.rows.now a.count (sym c.misplaced.ensures ∙ c.if-misplaced.false) in
-    let y = rw c.in-Ok.is at c.write_kept.ensures in
+    let y = rw c.in_ok-at.was at c.write_kept.ensures in
     (y.1, x.2, sym c.good_table.ensures ∙ c.if-not-good_table.false)
 
-pub returns-in-Ok : goal.returns-in-Ok
-returns-in-Ok c =
+pub returns : goal.returns
+returns c =
     let a = c.args in
-    let y = rw c.in-Ok.is at c.write_kept.ensures in
+    let y = rw c.in_ok-at.was at c.write_kept.ensures in
     let q = call-pours a.w a.src.now a.h a.rows.now a.count a.out.now (sym c.misplaced.ensures ∙ c.if-misplaced.false) (sym c.good_table.ensures ∙ c.if-not-good_table.false) in
     does-too (q ∙ y.2 (row_meanings a.src.now 0 [] (rows_of a.rows.now a.count))) c.write_rows.ensures
 
-pub returns-in-Err : goal.returns-in-Err
-returns-in-Err c =
+pub returns-in_err-at : goal.returns-in_err-at
+returns-in_err-at c =
     let a = c.args in
-    let y = rw c.in-Err.is at c.write_kept.ensures in
+    let y = rw c.in_err-at.was at c.write_kept.ensures in
     let q = call-pours a.w a.src.now a.h a.rows.now a.count a.out.now (sym c.misplaced.ensures ∙ c.if-misplaced.false) (sym c.good_table.ensures ∙ c.if-not-good_table.false) in
-    of-outcome (stop _ _ _ _) (q ∙ y (row_meanings a.src.now 0 [] (rows_of a.rows.now a.count)))
+    let e = err_from_is_err_and c.from_residual.result c.from_residual.ensures.1 in
+    rw (e.1, e.2)
+    (of-outcome (stop _ _ _ _) (q ∙ y (row_meanings a.src.now 0 [] (rows_of a.rows.now a.count))))

@@ -1,6 +1,7 @@
 -- Goals of `write_header::write_vars` that the search leaves.
 use mathlib.Core.Path.{◌≡◌, refl, sym, ◌∙◌}
 use native.Mathlib.Omega.{arith}
+use Rattle.std.proofs.lemmas.Result.{err_from_is_err_and}
 use Rattle.write_header.proofs.Items.{var-of, moved, one_more, no_more}
 use Rattle.write_header.proofs.Places.{var-placed}
 use Rattle.write_header.proofs.write_vars.Goals as goal
@@ -26,7 +27,7 @@ pub loop-i-preserved : goal.loop-i-preserved
 loop-i-preserved c =
     let a = c.args in
     let l = c.loop-i in
-    let x = rw c.in-Ok.is at c.write_var.ensures in (
+    let x = rw c.in_ok-past.was at c.write_var.ensures in (
       x.1,
       c.write_var.auto.out ∙ l.invariant.1,
       rw x.0 at (one_more a.src.now a.rows.now a.n a.from a.out.now a.at a.w l.i l.out l.place l.v
@@ -34,14 +35,16 @@ loop-i-preserved c =
           c.parent_at-me.ensures (sym c.is_var_of.ensures ∙ c.if-not-is_var_of.false) l.invariant.2 _ _ _ _ x),
     )
 
-pub returns-in-Err : goal.returns-in-Err
-returns-in-Err c =
+pub returns-in_err-past : goal.returns-in_err-past
+returns-in_err-past c =
     let a = c.args in
     let l = c.loop-i in
-    no_more a.src.now a.rows.now a.n a.from a.out.now a.at a.w l.i l.out l.place l.v
+    let e = err_from_is_err_and c.from_residual.result c.from_residual.ensures.1 in
+    rw (e.1, e.2)
+    (no_more a.src.now a.rows.now a.n a.from a.out.now a.at a.w l.i l.out l.place l.v
     c.loop-i-test.true c.var_at.ensures
     c.parent_at-me.ensures (sym c.is_var_of.ensures ∙ c.if-not-is_var_of.false) l.invariant.2 _ _ _ _
-    (rw c.in-Err.is at c.write_var.ensures)
+    (rw c.in_err-past.was at c.write_var.ensures))
 
 pub returns : goal.returns
 returns c =

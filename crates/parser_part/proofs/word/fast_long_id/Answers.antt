@@ -9,7 +9,7 @@ loop-i-init c =
 
 pub returns-then-whitespace_byte : goal.returns-then-whitespace_byte
 returns-then-whitespace_byte c =
-    id-end _ _ _ _ _ c.loop-i.invariant (omega arith) (sym c.whitespace_byte.ensures ∙ c.if-whitespace_byte.true)
+    id-end _ _ _ _ _ c.loop-i.invariant c.loop-i-test.true (sym c.whitespace_byte.ensures ∙ c.if-whitespace_byte.true)
 
 pub overflow_mul-sum : goal.overflow_mul-sum
 overflow_mul-sum c =
@@ -26,5 +26,5 @@ overflow_mul-power c = omega (arith, power-fits _ _ _ _ _ c.loop-i.invariant c.i
 
 pub loop-i-preserved : goal.loop-i-preserved
 loop-i-preserved c =
-    let more = id-more _ _ _ _ _ c.loop-i.invariant (omega arith) c.if-at-i.false c.if-b-lt33.false c.if-b-gt126.false in
+    let more = id-more _ _ _ _ _ c.loop-i.invariant c.loop-i-test.true c.if-at-i.false c.if-b-lt33.false c.if-b-gt126.false in
     rw c.wide.ensures more
