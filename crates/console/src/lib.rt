@@ -47,13 +47,13 @@ pub fn read_input(stdin: Stdin, buf: &mut [u8]) -> Option<usize> {
 // Writes the first n bytes of a buffer to standard output, and answers whether all were written.
 pub fn write_front(stdout: Stdout, s: &[u8], n: usize) -> bool {
     let mut to = stdout;
-    to.write_all(front(s, n)).is_ok()
+    write_all(&mut to, front(s, n))
 }
 
 // Writes a line to standard error. Where that fails too, the outcome is left to say so.
 pub fn write_error(stderr: Stderr, line: &[u8]) {
     let mut to = stderr;
-    let _ = to.write_all(line);
+    write_all(&mut to, line);
 }
 
 // Writes the outcome, if somebody takes it: where descriptor 3 is open for writing. What it is, is opened anew: to append, as what was
@@ -69,7 +69,7 @@ pub fn write_outcome(files: &impl Files, digit: u8) {
         return;
     };
     let mut to = file;
-    let _ = to.write_all(&[digit]);
+    write_all(&mut to, &[digit]);
 }
 
 // The last act of a program that failed: the line says how.
@@ -108,9 +108,22 @@ fn takes_outcome(files: &impl Files) -> bool {
 // two bits, for writing alone or for reading too.
 fn tells_writing(about: &[u8]) -> bool {
     about
-        .split(|&b| b == b'\n')
+        .split_inclusive(|&b| b == b'\n')
         .find(|line| line.starts_with(FLAGS))
-        .is_some_and(|line| matches!(line.last(), Some(b'1' | b'2' | b'5' | b'6')))
+        .is_some_and(|line| matches!(line, [.., b'1' | b'2' | b'5' | b'6', b'\n']))
+}
+
+// Writes all of `s`, and answers whether it could. By hand: of interrupted writes std's `write_all` takes a few to a standard stream, and
+// to a file so many that it would not end. A write that moves nothing would move nothing again: it ends this as one that fails.
+fn write_all<W: Write>(to: &mut W, s: &[u8]) -> bool {
+    let mut rest = s;
+    while !rest.is_empty() {
+        match write_some(to, rest) {
+            Ok(n) if 0 < n => rest = rest.get(n..).unwrap_or(&[]),
+            _ => return false,
+        }
+    }
+    true
 }
 
 // One read, made again where it was interrupted.
@@ -119,6 +132,17 @@ fn read_some<R: Read>(from: &mut R, buf: &mut [u8]) -> io::Result<usize> {
         match from.read(buf) {
             Err(e) if e.kind() == ErrorKind::Interrupted => {}
             got => return got,
+        }
+    }
+    Err(io::Error::from(ErrorKind::Interrupted))
+}
+
+// One write, made again where it was interrupted.
+fn write_some<W: Write>(to: &mut W, s: &[u8]) -> io::Result<usize> {
+    for _ in 0..TRIES {
+        match to.write(s) {
+            Err(e) if e.kind() == ErrorKind::Interrupted => {}
+            put => return put,
         }
     }
     Err(io::Error::from(ErrorKind::Interrupted))
@@ -135,7 +159,11 @@ pub fn put(out: &mut [u8], at: usize, word: &[u8]) -> usize {
 }
 
 pub fn put_byte(out: &mut [u8], at: usize, b: u8) -> usize {
-    put(out, at, &[b])
+    let Some(place) = out.get_mut(at) else {
+        return at;
+    };
+    *place = b;
+    at + 1
 }
 
 pub fn put_number(out: &mut [u8], at: usize, n: u64) -> usize {

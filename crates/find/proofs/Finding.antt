@@ -152,7 +152,7 @@ module _ (s : List ℕ) (kind : Kind) (p : ℕ) (name table : List ℕ) (count i
       let k : count - i ≡ suc (count - (i + 1)) = omega arith in
       rw k (one (count - (i + 1)) ∙ rw e)
 
-  from_end : count ≤ i → from ≡ None
+  pub from_end : count ≤ i → from ≡ None
   unfolding first_named rows_from
   from_end h = let k : count - i ≡ 0 = omega arith in rw k
 

@@ -1,4 +1,4 @@
--- Laws of `fill_rows`: one more row, rows past the end, and that it places the rows of a table.
+-- Laws of `fill_rows`: its length, one more row, rows past the end, and that it places the rows of a table.
 use mathlib.Core.Path.{◌≡◌, refl, ap, ◌∙◌}
 use mathlib.Core.Logic.{⊎_elim}
 use Prim.Native.Nat.{ℕ, zero, suc, ◌+◌, ◌<◌, ◌≤◌, min}
@@ -12,6 +12,12 @@ use Rattle.lent_rows.specs.Rows.{struct_of, structs, fill_rows}
 use Rattle.std.proofs.lemmas.Bool.{cases_lt}
 
 module _ (ws : List ℕ) where
+  pub length-fill : (i n : ℕ) (old : List HeaderRow) → length (fill_rows i n ws old) ≡ length old
+  unfolding fill_rows
+  length-fill i zero old = refl
+  length-fill i (suc n) [] = refl
+  length-fill i (suc n) (r ∷ old) = ap suc (length-fill (i + 1) n old)
+
   pub one_more : (i k j : ℕ) (old : List HeaderRow) → j ≡ i + k → k < length old → set (fill_rows i k ws old) k (struct_of (row_at ws j)) ≡ fill_rows i (suc k) ws old
   unfolding fill_rows
   one_more i k j [] e h = absurd (not-suc-le-zero h)

@@ -33,7 +33,8 @@ fn change_time(input: &[u8], c: Cursor) -> Reading<u64>
     Ok((v, next))
 }
 
-// The id of a change.
+// The id of a change. Put into its callers, as most changes pass here and a call answers through memory.
+#[inline(always)]
 fn change_id(input: &[u8], c: Cursor) -> Reading<IdCode>
     requires { Valid input.now c }
     ensures { result ≡ id_from input.now c }

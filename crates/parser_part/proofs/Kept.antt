@@ -23,7 +23,7 @@ IdKept s c (Ok (i, d)) = From s c d
 IdKept s c (Err (e, d)) = From s c d
 
 module _ (s : List ℕ) (c : Cursor) (v : Valid s c) where
-  word_kept : (n : Bound) → Kept s c (word_from s c n)
+  pub word_kept : (n : Bound) → Kept s c (word_from s c n)
   unfolding word_from
   word_kept n = go (token s c n) (token-kept s c n v)
     where
@@ -54,6 +54,9 @@ module _ (s : List ℕ) (c : Cursor) (v : Valid s c) where
       go : (k : Reading Text) → Kept s c k → IdKept s c (id_of_token s k)
       go (Ok (t, d)) q = at (parse_id (part s t)) d q.0
       go (Err (e, d)) q = q
+
+  pub text-valid : {t : Text} {d : Cursor} → text_from s c ≡ Ok (t, d) → Valid s d
+  text-valid e = (rw e at (text-kept s c v)).0.valid
 
   pub text-inside : {t : Text} {d : Cursor} → text_from s c ≡ Ok (t, d) → t.start + t.len ≤ length s
   text-inside e = (rw e at (text-kept s c v)).1.inside

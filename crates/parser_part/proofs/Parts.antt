@@ -58,6 +58,10 @@ module _ (s : List ℕ) (c : Cursor) where
   unfolding run
   run-no-limit f v = ap (and_then (λ t d. run (f t (part s t)) s d)) (no-limit s c v)
 
+  pub run-text : (f : Text → List ℕ → Plan) → run (a_text f) s c ≡ and_then (λ t d. run (f t (part s t)) s d) (text_from s c)
+  unfolding run
+  run-text f = refl
+
   pub run-word : (n : Bound) (f : Text → List ℕ → Plan) → run (a_word n f) s c ≡ and_then (λ t d. run (f t (part s t)) s d) (word_from s c n)
   unfolding run word_from
   run-word n f = go (token s c n)

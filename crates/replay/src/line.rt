@@ -201,9 +201,11 @@ fn put_escaped(out: &mut [u8], at: usize, b: u8) -> usize {
     if b.is_ascii_graphic() && b != b'\\' {
         return put_byte(out, at, b);
     }
-    let o = put(out, at, b"\\x");
-    let p = put_byte(out, o, hex(b / 16));
-    put_byte(out, p, hex(b % 16))
+    // Two bytes one by one: a copy of so few costs more.
+    let o = put_byte(out, at, b'\\');
+    let p = put_byte(out, o, b'x');
+    let q = put_byte(out, p, hex(b / 16));
+    put_byte(out, q, hex(b % 16))
 }
 
 fn hex(n: u8) -> u8 {

@@ -217,10 +217,10 @@ fn var_types() -> [VarName; 18]
     VAR_TYPES
 }
 
-// Whether an entry's name is `s`.
-fn is_named(e: VarName, s: &[u8]) -> bool
-    requires { e.len ≤ length e.name }
-    ensures { result ≡ equal s.now (take e.len e.name) }
+// Whether an entry's name is `s`. The entry is lent: the processor waits for a copy of what was stored just before.
+fn is_named(e: &VarName, s: &[u8]) -> bool
+    requires { e.now.len ≤ length e.now.name }
+    ensures { result ≡ equal s.now (take e.now.len e.now.name) }
 {
     text::equals(s, &e.name[..e.len])
 }
@@ -230,7 +230,7 @@ impl VarType {
         ensures { result ≡ parse_var_type s.now }
     {
         let list = var_types();
-        for &e in &list {
+        for e in &list {
             if is_named(e, s) {
                 return Some(e.var_type);
             }

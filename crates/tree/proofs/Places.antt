@@ -1,7 +1,7 @@
 -- What 25 asks of rows: which of them have a text outside the source.
-use Prim.Native.Nat.{ℕ, zero, suc, ◌+◌, ◌*◌, ◌/◌, ◌≤◌, ◌<◌, min}
+use Prim.Native.Nat.{ℕ, zero, suc, ◌+◌, ◌-◌, ◌*◌, ◌/◌, ◌≤◌, ◌<◌, min}
 use mathlib.Core.Path.{◌≡◌, refl, sym, ap, ◌∙◌}
-use mathlib.Core.Bool.{Bool, false, not, ◌&&◌, ◌||◌, and-true, and-false}
+use mathlib.Core.Bool.{Bool, true, false, not, ◌&&◌, ◌||◌, and-true, and-false}
 use mathlib.Core.List.{List}
 use native.Mathlib.Omega.{arith}
 use native.Mathlib.Decide.{dec_lt}
@@ -15,7 +15,9 @@ use Rattle.rows.specs.declared.Row.{Row}
 use Rattle.rows.proofs.Peeking.{row-cases}
 use Rattle.text.specs.Texts.{is_within}
 use Rattle.text.proofs.Lists.{neither}
+use Rattle.tree.specs.Chain.{rest}
 use Rattle.tree.specs.Place.{row_outside, some_outside}
+use Rattle.tree.proofs.Rows.{rest-cons, rest-nil}
 
 -- ---- row i lies outside if the text that its words say does, and they are a row
 pub row-outside : (s table : List ℕ) (i : ℕ) → i < length table / 10
@@ -37,6 +39,23 @@ none-outside : (s table : List ℕ) (i k : ℕ) → length table / 10 ≤ i → 
 unfolding some_outside rows_from
 none-outside s table i zero h = refl
 none-outside s table i (suc k) h = rw (none_row table i h) (none-outside s table (i + 1) k (omega arith))
+
+module _ (s table : List ℕ) (n i : ℕ) where
+  pub outside-past : length table / 10 ≤ i → some_outside s (rest table n i) ≡ false
+  outside-past h = none-outside s table i (n - i) h
+
+  pub outside-end : i ≤ n → n ≤ i → some_outside s (rest table n i) ≡ false
+  unfolding some_outside
+  outside-end h k = let e : i ≡ n = omega arith in rw (e, rest-nil table n)
+
+  module _ (l : i < n) where
+    pub outside-here : row_outside s (row_at table i) ≡ true → some_outside s (rest table n i) ≡ true
+    unfolding some_outside
+    outside-here e = rw (rest-cons table n i l, e)
+
+    pub outside-more : row_outside s (row_at table i) ≡ false → some_outside s (rest table n i) ≡ some_outside s (rest table n (i + 1))
+    unfolding some_outside
+    outside-more e = rw (rest-cons table n i l, e)
 
 -- those that the table holds tell of all
 held : (s table : List ℕ) (i m k : ℕ) → m ≤ k → (m < k → length table / 10 ≤ i + m) → some_outside s (rows_from table i m) ≡ some_outside s (rows_from table i k)

@@ -25,6 +25,15 @@ fn row_outside(src: &[u8], rows: &[u64], i: usize) -> bool
 pub fn some_outside(src: &[u8], rows: &[u64], count: usize) -> bool
     ensures { result ≡ some_outside src.now (rows_of rows.now count) }
 {
-    let held = count.min(rows.len() / rows::WORDS);
-    (0..held).any(|i| row_outside(src, rows, i))
+    // The table's end is asked in each turn, so that the compiler drops the same question in `kind_at`: `any` over the rows held took 1.8
+    // times as long.
+    for i in 0..count {
+        if rows.len() / rows::WORDS <= i {
+            return false;
+        }
+        if row_outside(src, rows, i) {
+            return true;
+        }
+    }
+    false
 }

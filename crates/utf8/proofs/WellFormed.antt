@@ -75,9 +75,13 @@ pub record Read (s : List ℕ) (d : Due) (i : ℕ) : Type 0 where
   pub within : i ≤ length s
   pub goes : well_formed (drop i s) (due_list d) ≡ valid_utf8 s
 
-pub read-start : (s : List ℕ) (low high : ℕ) → Read s (record { more = 0; low = low; high = high }) 0
+-- what stands from i on is judged as the whole is
+abbrev pub AsWhole : List ℕ → ℕ → Type 0
+AsWhole s i = (i ≤ length s) × (valid_utf8 (drop i s) ≡ valid_utf8 s)
+
+pub read-start : (s : List ℕ) (low high i : ℕ) → AsWhole s i → Read s (record { more = 0; low = low; high = high }) i
 unfolding valid_utf8 due_from
-read-start s low high = record { within = omega arith; goes = refl }
+read-start s low high i w = record { within = w.0; goes = w.1 }
 
 pub read_more : (s : List ℕ) (d e : Due) (i : ℕ) → Read s d i → i < length s
     → Leaves (due_list d) (get_or s i 0) (due_list e) → Read s e (i + 1)

@@ -43,15 +43,19 @@ module _ (b : ℕ) where
   pub lower-byte : (v : Value) → value_of b ≡ Some v → lower b ≡ value_byte v
   lower-byte v e = let k = value-of b (is-value v e) in let same : k.0 ≡ v = cc in k.2 ∙ ap value_byte same
 
--- ---- a value is read back from its number
-each : (v : Value) → get_or value_order (value_number v) Value.Z ≡ v
-each Value.V0 = refl
-each Value.V1 = refl
-each Value.X = refl
-each Value.Z = refl
+-- ---- a value is read back from its byte and from its number
+each : (v : Value) → (value_of (value_byte v) ≡ Some v) × (get_or value_order (value_number v) Value.Z ≡ v)
+unfolding value_of has
+each Value.V0 = (refl, refl)
+each Value.V1 = (refl, refl)
+each Value.X = (refl, refl)
+each Value.Z = (refl, refl)
+
+pub value-byte : (v : Value) → value_of (value_byte v) ≡ Some v
+value-byte v = (each v).0
 
 pub value-order : Order value_order Value.Z value_number
-value-order = record { back = each; each = (refl, (refl, (refl, (refl, tt)))); whole = refl }
+value-order = record { back = λ v. (each v).1; each = (refl, (refl, (refl, (refl, tt)))); whole = refl }
 
 -- ---- a value's number is a place of the order and means that value; a place of the order is the number of the value that it means
 pub value-back : (k : Value) → (leb (value_number k) 3 ≡ true) × (value_for (value_number k) ≡ k)
@@ -67,3 +71,23 @@ pub by-digit : (P : ℕ → Type 0) → P 48 → P 49 → (b : ℕ) → b / 2 �
 by-digit P o i b e =
     by-test (eqb b 48) (λ q. rw (eqb-true b 48 q) o)
     (λ q. let h : b ≡ 49 = omega (arith, e, eqb-false b 48 q) in rw h i)
+
+-- ---- lower case changes `X` and `Z` alone
+by-lower : (P : ℕ → ℕ → Type 0) → P 88 120 → P 90 122 → ((b : ℕ) → lower b ≡ b → P b b) → (b : ℕ) → P b (lower b)
+unfolding lower
+by-lower P x z same b =
+    by-test (eqb b 88) (λ e. rw (eqb-true b 88 e) x)
+    (λ e. by-test (eqb b 90) (λ f. rw (eqb-true b 90 f) z) (λ f. rw (e, f) (same b (rw (e, f)))))
+
+pub lower-lower : (b : ℕ) → lower (lower b) ≡ lower b
+unfolding lower
+lower-lower = by-lower (λ b c. lower c ≡ c) refl refl (λ b e. e)
+
+-- a byte in lower case means what it meant
+pub lower-means : (b : ℕ) → value_of (lower b) ≡ value_of b
+unfolding value_of has
+lower-means = by-lower (λ b c. value_of c ≡ value_of b) refl refl (λ b e. refl)
+
+pub lower-is : (b : ℕ) → is_value (lower b) ≡ is_value b
+unfolding is_value has
+lower-is = by-lower (λ b c. is_value c ≡ is_value b) refl refl (λ b e. refl)

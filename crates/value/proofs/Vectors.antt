@@ -1,8 +1,8 @@
--- Laws of a vector written in lower case at the start of a buffer.
+-- Laws of a vector in lower case, and of one written so at the start of a buffer.
 use Prim.Native.Nat.{ℕ, ◌+◌, ◌≤◌, ◌<◌}
-use mathlib.Core.Path.{◌≡◌, refl, sym, ◌∙◌}
-use mathlib.Core.Bool.{true, false}
-use mathlib.Core.List.{List, map}
+use mathlib.Core.Path.{◌≡◌, refl, sym, ap₂, ◌∙◌}
+use mathlib.Core.Bool.{true, false, ◌&&◌}
+use mathlib.Core.List.{List, [], ◌∷◌, map}
 use native.Mathlib.Omega.{arith}
 use borrow.Author.Tests.{le-leb, lt-leb}
 use lib.ListN.{length, get_or, set, length-map, get_or-map}
@@ -10,6 +10,13 @@ use Rattle.text.proofs.Rows.{Copied, copy_more, copy_done, no_room}
 use Rattle.text.specs.Texts.{put_bytes}
 use Rattle.value.specs.Values.{are_values, lower, lower_answer, lower_bytes}
 use Rattle.value.specs.declared.vector.Written.{Written}
+use Rattle.value.proofs.Values.{lower-is}
+
+-- ---- lower case leaves what is a vector, and what is none
+pub lower-all : (s : List ℕ) → are_values (map lower s) ≡ are_values s
+unfolding are_values
+lower-all [] = refl
+lower-all (b ∷ s) = ap₂ ◌&&◌ (lower-is b) (lower-all s)
 
 -- ---- a vector written in lower case
 pub lower-at : (s : List ℕ) (i : ℕ) → get_or (map lower s) i 0 ≡ lower (get_or s i 0)
@@ -17,7 +24,7 @@ unfolding lower
 lower-at s i = get_or-map lower s i 0
 
 -- it is written as the text in lower case is put
-lower-put : (s old : List ℕ) → are_values s ≡ true → lower_bytes s old ≡ put_bytes (map lower s) old
+pub lower-put : (s old : List ℕ) → are_values s ≡ true → lower_bytes s old ≡ put_bytes (map lower s) old
 unfolding lower_bytes put_bytes
 lower-put s old v = rw (v, length-map s lower)
 

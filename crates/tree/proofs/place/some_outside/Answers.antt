@@ -1,18 +1,28 @@
 -- Goals of `tree::place::some_outside` that the search leaves.
-use mathlib.Core.Path.{refl, ◌∙◌}
-use native.Mathlib.Nat.{sub-zero}
-use borrow.Author.Rules.{rules}
-use borrow.Author.Tests.{tests}
-use Rattle.std.proofs.lemmas.Iterator.{YieldsList-from_range}
-use Rattle.std.proofs.lemmas.Iterator.Search.{any_from_yields_List}
-use Rattle.rows.specs.Rows.{row_at}
-use Rattle.tree.specs.Place.{row_outside}
-use Rattle.tree.proofs.Places.{any-outside}
+use mathlib.Core.Path.{sym, ap, ◌∙◌}
+use native.Mathlib.Omega.{arith}
+use Rattle.tree.specs.Place.{some_outside}
+use Rattle.tree.proofs.Rows.{rest_all}
+use Rattle.tree.proofs.Places.{outside-past, outside-here, outside-more, outside-end}
 use Rattle.tree.proofs.place.some_outside.Goals as goal
 
+pub loop-i-init : goal.loop-i-init
+loop-i-init c = ap (some_outside _) (sym (rest_all _ _))
+
+pub returns-then-rows-i : goal.returns-then-rows-i
+returns-then-rows-i c = let l = c.loop-i in sym (l.invariant ∙ outside-past _ _ _ _ c.if-rows-i.true)
+
+pub returns-then-row_outside : goal.returns-then-row_outside
+returns-then-row_outside c =
+    let l = c.loop-i in
+    let e = sym c.row_outside.ensures ∙ c.if-row_outside.true in
+    sym (l.invariant ∙ outside-here _ _ _ _ c.loop-i-test.true e)
+
+pub loop-i-preserved : goal.loop-i-preserved
+loop-i-preserved c =
+    let l = c.loop-i in
+    let e = sym c.row_outside.ensures ∙ c.if-row_outside.false in
+    l.invariant ∙ outside-more _ _ _ _ c.loop-i-test.true e
+
 pub returns : goal.returns
-returns c =
-    let a = c.args in
-    any_from_yields_List (λ i. row_outside a.src.now (row_at a.rows.now i)) _ _ _ c.any.ensures.ran
-    (YieldsList-from_range 0 c.min-held.result c.min-held.result refl (sub-zero _)) (λ x b q k. search (rules, tests))
-    ∙ any-outside a.src.now a.rows.now c.min-held.result a.count c.min-held.ensures
+returns c = let l = c.loop-i in sym (l.invariant ∙ outside-end _ _ _ _ (omega arith) c.loop-i-test.false)
